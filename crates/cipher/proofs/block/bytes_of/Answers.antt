@@ -1,0 +1,7 @@
+use mathlib.Core.Path.{_≡_, sym, ap, _∙_}
+use Rattle.cipher.specs.Block.{be-bytes}
+use Rattle.cipher.proofs.Numbers.{block-places}
+use Rattle.cipher.proofs.block.bytes_of.Needs as need
+
+pub returns : need.returns
+returns c = c .to-be-bytes .ensures ∙ sym (block-places (c .args .block))
