@@ -19,9 +19,10 @@ pub be-bytes-bytes : (w n : ℕ) → Bytes w (be-bytes w n)
 unfolding be-bytes
 be-bytes-bytes zero n = (refl, tt)
 be-bytes-bytes (suc w) n =
-    let h = be-bytes-bytes w (n / 256) in
-    (length-push (be-bytes w (n / 256)) (n % 256) ∙ add-one _ ∙ ap suc (h .0),
-     all-push Byte (be-bytes w (n / 256)) (n % 256) (h .1) (mod-below n 256 (omega arith)))
+    let h = be-bytes-bytes w (n / 256) in (
+      length-push (be-bytes w (n / 256)) (n % 256) ∙ add-one _ ∙ ap suc (h .0),
+      all-push Byte (be-bytes w (n / 256)) (n % 256) (h .1) (mod-below n 256 (omega arith)),
+    )
 
 pub be-number-below : (w : ℕ) (xs : List ℕ) → Bytes w xs → be-number xs < 256 ^ w
 unfolding be-number

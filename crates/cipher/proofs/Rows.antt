@@ -14,8 +14,8 @@ use denote.Array.{Array}
 use borrow.Author.Needs.{needs}
 use Rattle.std.proofs.shelf.Counted.{fill-by-all}
 use Rattle.std.proofs.shelf.Elements.{all-from-getD, all-getD, all-take, all-drop}
-use Rattle.std.proofs.shelf.Lists.{length-take-le, length-drop}
-use Rattle.std.proofs.shelf.Lanes.{length-zip2}
+use Rattle.std.proofs.shelf.Lists.{ext-getD, length-take-le, length-drop}
+use Rattle.std.proofs.shelf.Lanes.{length-zip2, getD-zip2}
 use Rattle.std.specs.shelf.Lists.{All}
 use Rattle.cipher.specs.Block.{Byte, Bytes, _⊕_}
 
@@ -27,6 +27,10 @@ of-array xs vs g = (g .1 .0 .1, all-from-getD Byte xs 0 (λ i h. let f : Fits w8
 pub eight-places : (xs : List ℕ) → length xs ≡ 8 →
     xs ≡ getD xs 0 0 ∷ getD xs 1 0 ∷ getD xs 2 0 ∷ getD xs 3 0 ∷ getD xs 4 0 ∷ getD xs 5 0 ∷ getD xs 6 0 ∷ getD xs 7 0 ∷ []
 eight-places xs h = fill-by-all (λ i. getD xs i 0) xs 8 0 h (λ k l. refl)
+
+-- two rows of n that agree at each place
+pub same-places : (n : ℕ) (xs ys : List ℕ) → length xs ≡ n → length ys ≡ n → ((k : ℕ) → k < n → getD xs k 0 ≡ getD ys k 0) → xs ≡ ys
+same-places n xs ys hx hy same = ext-getD 0 xs ys (hx ∙ sym hy) (λ k l. same k (omega arith))
 
 -- a byte at each place
 pub byte-at : (n : ℕ) (xs : List ℕ) → Bytes n xs → (i : ℕ) → i < n → getD xs i 0 < 256
@@ -59,6 +63,9 @@ each-byte (x ∷ a) (y ∷ b) ha hb = (xor-lt 8 x y (ha .0) (hb .0), each-byte a
 
 pub ⊕-bytes : (n : ℕ) (a b : List ℕ) → Bytes n a → Bytes n b → Bytes n (a ⊕ b)
 ⊕-bytes n a b ha hb = (length-zip2 bitXor a b (ha .0 ∙ sym (hb .0)) ∙ ha .0, each-byte a b (ha .1) (hb .1))
+
+pub ⊕-at : (n : ℕ) (a b : List ℕ) → length a ≡ n → length b ≡ n → (k : ℕ) → k < n → getD (a ⊕ b) k 0 ≡ bitXor (getD a k 0) (getD b k 0)
+⊕-at n a b ha hb k l = getD-zip2 bitXor a b k 0 0 0 (omega arith) (omega arith)
 
 pub ⊕-twice : (a k : List ℕ) → length a ≡ length k → (a ⊕ k) ⊕ k ≡ a
 ⊕-twice [] k h = refl
