@@ -36,6 +36,9 @@ same-places n xs ys hx hy same = ext-getD 0 xs ys (hx ∙ sym hy) (λ k l. same 
 pub byte-at : (n : ℕ) (xs : List ℕ) → Bytes n xs → (i : ℕ) → i < n → getD xs i 0 < 256
 byte-at n xs h i l = all-getD Byte xs i 0 (omega (arith, h .0)) (h .1)
 
+pub bytes-by-place : (n : ℕ) (xs : List ℕ) → length xs ≡ n → ((i : ℕ) → i < n → getD xs i 0 < 256) → Bytes n xs
+bytes-by-place n xs h each = (h, all-from-getD Byte xs 0 (λ i l. each i (omega arith)))
+
 -- the first m bytes of a row, and the rest
 pub take-bytes : (m n : ℕ) (xs : List ℕ) → Bytes (m + n) xs → Bytes m (take m xs)
 take-bytes m n xs h = (length-take-le m xs (omega (arith, h .0)), all-take Byte m xs (h .1))

@@ -6,3 +6,4 @@ pub mod Columns
 pub mod Twice
 pub mod Schedule
 pub mod Undo
+pub mod Running

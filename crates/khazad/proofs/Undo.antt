@@ -120,6 +120,13 @@ module _ (ks js : ℕ → List ℕ) (same : (r : ℕ) → r < 9 → ks r ≡ js 
   α-same a =
       ap₂ (λ z k. γ z ⊕ k) (rounds-same 7 (omega arith) (a ⊕ ks 0) ∙ ap (λ k. rounds js 7 (a ⊕ k)) (same 0 (omega arith))) (same 8 (omega arith))
 
+  pub inverse-same : (r : ℕ) → r < 9 → inverse ks r ≡ inverse js r
+  inverse-same =
+      nine-cases (λ r. inverse ks r ≡ inverse js r)
+        (inverse-first ks ∙ same 8 (omega arith) ∙ sym (inverse-first js))
+        (inverse-last ks ∙ same 0 (omega arith) ∙ sym (inverse-last js))
+        (λ r j e. inverse-between ks r j e ∙ ap θ (same (suc r) (omega arith)) ∙ sym (inverse-between js r j e))
+
 -- ---- the two maps of Khazad
 
 module _ (key : List ℕ) (h : Key key) where
