@@ -3,7 +3,7 @@ use mathlib.Core.Path.{_≡_, ap, ap₂, _∙_}
 use Prim.Native.Nat.{ℕ, _+_, _*_, _/_, _%_, _<_}
 use lib.Bits.{bitAnd, bitOr, and-mask}
 use Rattle.khazad.specs.Khazad.{P, Q, boxed, exchanged, joined, S}
-use Rattle.khazad.proofs.Tests.{agree, agree-pairs, stay-below}
+use Rattle.cipher.proofs.Computed.{agree, agree-pairs, stay-below}
 
 pub S-twice : (x : ℕ) → x < 256 → S (S x) ≡ x
 unfolding S

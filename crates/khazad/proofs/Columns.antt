@@ -11,7 +11,7 @@ use Rattle.std.specs.shelf.Lists.{All, joined}
 use Rattle.cipher.specs.Block.{Byte, Bytes, _⊕_}
 use Rattle.khazad.specs.Khazad.{mul, H, H-row, scaled, product, θ}
 use Rattle.khazad.proofs.Layers.{Wide, H-wide, scaled-bytes, product-bytes}
-use Rattle.khazad.proofs.Tests.{agree-pairs}
+use Rattle.cipher.proofs.Computed.{agree-pairs}
 
 -- the bytes of a row, each times what stands in column j of its row of a matrix, added up
 unfoldable pub dot : List ℕ → List (List ℕ) → ℕ → ℕ

@@ -1,4 +1,3 @@
-pub mod Tests
 pub mod Boxes
 pub mod Products
 pub mod Layers

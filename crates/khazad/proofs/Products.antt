@@ -8,7 +8,7 @@ use lib.Pow.{pow-pos}
 use lib.Bits.{bitAnd, bitXor, and-mask, xor-assoc, xor-block, xor-lt, xor-shr, xor-zero-r}
 use Rattle.cipher.proofs.Rows.{xor-middle}
 use Rattle.khazad.specs.Khazad.{dbl, times, mul}
-use Rattle.khazad.proofs.Tests.{agree, stay-below}
+use Rattle.cipher.proofs.Computed.{agree, stay-below}
 
 -- ---- a bit times a number
 

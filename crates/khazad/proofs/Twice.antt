@@ -13,7 +13,7 @@ use Rattle.cipher.specs.Block.{Bytes, Block, be-bytes, be-number, _⊕_}
 use Rattle.cipher.proofs.Numbers.{be-bytes-⊕, be-number-⊕, block-bytes, bytes-of-block, number-block}
 use Rattle.khazad.specs.Khazad.{dbl, times, mul, scaled, product, θ}
 use Rattle.khazad.proofs.Layers.{θ-xor, θ-bytes}
-use Rattle.khazad.proofs.Tests.{agree}
+use Rattle.cipher.proofs.Computed.{agree}
 
 -- an additive map of numbers of n bits that keeps every power of two keeps every number
 module _ (f : ℕ → ℕ) (n : ℕ) (additive : (x y : ℕ) → x < 2 ^ n → y < 2 ^ n → f (bitXor x y) ≡ bitXor (f x) (f y)) (powers : (k : ℕ) → k < n → f (2 ^ k) ≡ 2 ^ k) where

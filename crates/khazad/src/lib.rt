@@ -5,6 +5,8 @@ mod field;
 mod keys;
 mod layer;
 mod sbox;
+#[cfg(test)]
+mod tests;
 
 pub use engine::FieldKhazad;
 pub use engine::FieldKhazadCipher;
