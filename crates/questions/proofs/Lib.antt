@@ -1,0 +1,4 @@
+-- The laws that the proofs of this crate cite.
+mod Asking
+mod Digits
+mod Splitting

@@ -1,0 +1,13 @@
+-- What is read so far and what is left write together what the whole text writes.
+use mathlib.Core.Path.{_≡_}
+use lib.ListN.{length}
+use Rattle.std.specs.Of.Vec.{vec-items}
+use Rattle.questions.specs.Hex.{unhex}
+use Rattle.questions.proofs.Digits.{behind}
+use Rattle.questions.proofs.hex.decode.Given as given
+
+abbrev pub Inv-loop-rest : given.InvT-loop-rest
+Inv-loop-rest l = behind (vec-items (l .bytes)) (unhex (l .rest)) ≡ unhex (l .text)
+
+abbrev pub μ-loop-rest : given.MeasureT-loop-rest
+μ-loop-rest l = length (l .rest)

@@ -1,0 +1,11 @@
+// Questions about known answers, as lines of text, and their answers.
+//
+// A line is `CIPHER OPERATION KEY START TEXT`. `answer::answer` says what is replied to it, whatever bytes it has.
+
+pub mod answer;
+pub mod hex;
+pub mod question;
+pub mod reply;
+#[cfg(test)]
+mod tests;
+pub mod words;
