@@ -9,7 +9,7 @@ use lib.ListN.{length, getD, take, drop}
 use Rattle.std.proofs.shelf.Lists.{at-drop-more, at-drop-all, take-more, take-all, take-rest}
 use Rattle.std.proofs.shelf.Tests.{cond-true, cond-false, eq-eqb, ne-eqb, and-left, cond-both}
 use Rattle.std.specs.declared.option.Option.the-variants.{Some, None}
-use Rattle.questions.specs.Words.{onto-first, split-words, all-filled, five-words}
+use Rattle.questions.specs.Words.{onto-first, split-words, all-filled, five-words, unended}
 
 onto-first-twice : (front : List ℕ) (c : ℕ) (words : List (List ℕ)) → onto-first front (onto-first (c ∷ []) words) ≡ onto-first (front ++ c ∷ []) words
 onto-first-twice front c [] = refl
@@ -82,3 +82,8 @@ then-words line word rest words first others = first ∙ ap (λ ws. word ∷ ws)
 -- five words and a space are more than five words
 pub six-or-more : (line a b c d e rest : List ℕ) → split-words line ≡ a ∷ b ∷ c ∷ d ∷ e ∷ split-words rest → None ≡ five-words line
 six-or-more line a b c d e rest same = not-five line (a ∷ b ∷ c ∷ d ∷ e ∷ split-words rest) same (ne-eqb (length (a ∷ b ∷ c ∷ d ∷ e ∷ split-words rest)) 5 (λ five. omega (arith, some-word rest)))
+
+-- no bytes have no newline
+pub nothing-is-unended : (line : List ℕ) → length line ≡ 0 → line ≡ unended line
+nothing-is-unended [] h = refl
+nothing-is-unended (c ∷ line) h = absurd (omega arith)

@@ -1,11 +1,11 @@
 -- The words of a line, which a space parts from one another.
--- Words: onto-first, split-words, filled, all-filled, five-words, parts.
+-- Words: onto-first, split-words, filled, all-filled, five-words, parts, unended.
 use mathlib.Core.Bool.{Bool, true, false, _&&_, cond}
 use mathlib.Core.List.{List, [], _∷_, _++_}
-use Prim.Native.Nat.{ℕ}
+use Prim.Native.Nat.{ℕ, _-_}
 use denote.Ref.{now}
 use lib.Dec.{eqb}
-use lib.ListN.{length}
+use lib.ListN.{getD, length, take}
 use Rattle.std.specs.declared.option.Option.{Option}
 use Rattle.std.specs.declared.option.Option.the-variants.{Some, None}
 use Rattle.questions.specs.declared.words.Words.{Words}
@@ -35,3 +35,7 @@ five-words line = cond (eqb (length (split-words line)) 5 && all-filled (split-w
 -- which field holds which word
 abbrev pub parts : Words → List (List ℕ)
 parts words = now (words .cipher) ∷ now (words .operation) ∷ now (words .key) ∷ now (words .start) ∷ now (words .text) ∷ []
+
+-- a line without the newline, byte 10, that may end it
+abbrev pub unended : List ℕ → List ℕ
+unended line = cond (eqb (getD line (length line - 1) 0) 10) (take (length line - 1) line) line

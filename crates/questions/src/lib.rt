@@ -6,6 +6,4 @@ pub mod answer;
 pub mod hex;
 pub mod question;
 pub mod reply;
-#[cfg(test)]
-mod tests;
 pub mod words;

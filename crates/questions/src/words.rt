@@ -2,7 +2,7 @@
 ghost use mathlib.Core.Path.{_≡_};
 ghost use mathlib.Core.List.{[], _∷_};
 ghost use Rattle.std.specs.Options.{Cases as BySome, mapped};
-ghost use Rattle.questions.specs.Words.{split-words, five-words, all-filled, parts};
+ghost use Rattle.questions.specs.Words.{split-words, five-words, all-filled, parts, unended};
 
 // The five words of a question, in the order of the line.
 #[derive(Clone, Copy)]
@@ -64,4 +64,20 @@ fn cut(text: &[u8]) -> Option<(&[u8], &[u8])>
         }
     }
     None
+}
+
+const NEWLINE: u8 = b'\n';
+
+// A line without the newline that ends it; the last line of an input may have none.
+pub fn without_newline(line: &[u8]) -> &[u8]
+    ensures { λ r. ⌜ now r ≡ unended (now (line .entry)) ⌝ }
+{
+    if line.is_empty() {
+        return line;
+    }
+    let last = line.len() - 1;
+    if line[last] == NEWLINE {
+        return &line[0..last];
+    }
+    line
 }
