@@ -38,8 +38,8 @@ module _ (key : List ℕ) (forward : List (List ℕ)) (of-key : forward ≡ map 
   pub backward-of-key : (backward : List (List ℕ)) → backward ≡ map (inverse (by-number forward)) (counting 0 9) → backward ≡ map (inverse (K key)) (counting 0 9)
   backward-of-key backward h =
       fill-by-all (inverse (K key)) backward 9 []
-        (ap length h ∙ length-map-counting (inverse (by-number forward)) 0 9)
-        (λ k l. numbered (inverse (by-number forward)) backward h k l ∙ inverse-same (by-number forward) (K key) (numbered (K key) forward of-key) k l)
+      (ap length h ∙ length-map-counting (inverse (by-number forward)) 0 9)
+      (λ k l. numbered (inverse (by-number forward)) backward h k l ∙ inverse-same (by-number forward) (K key) (numbered (K key) forward of-key) k l)
 
   pub runs-forward : (b : ℕ) → be-number (α (by-number forward) (be-bytes 8 b)) ≡ enciphered key b
   unfolding enciphered encipher

@@ -123,9 +123,9 @@ module _ (ks js : ℕ → List ℕ) (same : (r : ℕ) → r < 9 → ks r ≡ js 
   pub inverse-same : (r : ℕ) → r < 9 → inverse ks r ≡ inverse js r
   inverse-same =
       nine-cases (λ r. inverse ks r ≡ inverse js r)
-        (inverse-first ks ∙ same 8 (omega arith) ∙ sym (inverse-first js))
-        (inverse-last ks ∙ same 0 (omega arith) ∙ sym (inverse-last js))
-        (λ r j e. inverse-between ks r j e ∙ ap θ (same (suc r) (omega arith)) ∙ sym (inverse-between js r j e))
+      (inverse-first ks ∙ same 8 (omega arith) ∙ sym (inverse-first js))
+      (inverse-last ks ∙ same 0 (omega arith) ∙ sym (inverse-last js))
+      (λ r j e. inverse-between ks r j e ∙ ap θ (same (suc r) (omega arith)) ∙ sym (inverse-between js r j e))
 
 -- ---- the two maps of Khazad
 

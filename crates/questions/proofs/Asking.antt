@@ -23,5 +23,5 @@ pub answered : (q : Question) (row answer : List ℕ) → row ≡ answer
     → answer ≡ be-bytes 8 (chosen enciphered deciphered (q .operation) (q .key) (be-number (q .text))) → bytes row ≡ said-to (Some q)
 answered q row answer h a = ap bytes (h ∙ a ∙ ap (λ f. be-bytes 8 (f (q .key) (be-number (q .text)))) (field-engine (q .engine) (q .operation)))
   where
-  field-engine : (e : Engine) (o : Operation) → chosen enciphered deciphered o ≡ map-of e o
-  field-engine KhazadField o = refl
+    field-engine : (e : Engine) (o : Operation) → chosen enciphered deciphered o ≡ map-of e o
+    field-engine KhazadField o = refl

@@ -36,7 +36,7 @@ engine-of word = cond (sameBytes word (codes "khazad-field")) (Some KhazadField)
 abbrev pub operation-of : List ℕ → Option Operation
 operation-of word =
     cond (sameBytes word (codes "ecb-encipher")) (Some EcbEncipher)
-      (cond (sameBytes word (codes "ecb-decipher")) (Some EcbDecipher) None)
+    (cond (sameBytes word (codes "ecb-decipher")) (Some EcbDecipher) None)
 
 -- bytes that are n
 abbrev pub of-length : ℕ → Option (List ℕ) → Option (List ℕ)

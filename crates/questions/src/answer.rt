@@ -124,7 +124,11 @@ pub fn answer(heap: Global, line: &[u8]) -> Result<Reply, AllocError>
         return Ok(Reply::NotUnderstood);
     };
     let bytes = match question.engine {
-        Engine::KhazadField => answer_by::<FieldKhazad>(question.operation, question.key, question.text),
+        Engine::KhazadField => answer_by::<FieldKhazad>(
+            question.operation,
+            question.key,
+            question.text,
+        ),
     };
     Ok(Reply::Bytes(Vec::from_slice(heap, &bytes)?))
 }

@@ -12,9 +12,10 @@ pub loop-i-again : need.loop-i-again
 loop-i-again c =
     let out = c .loop-i .out in
     let i = c .loop-i .i in
-    let within : i < length out = omega arith in
-    (length-set out i (c .substitute .result) ∙ c .loop-i .inv .0,
-     λ k h. ap (λ v. getD (set out i v) k 0) (c .substitute .ensures) ∙ fill-by-more (λ k. S (8 * c .args .r + k)) out i 0 within (c .loop-i .inv .1) k h)
+    let within : i < length out = omega arith in (
+      length-set out i (c .substitute .result) ∙ c .loop-i .inv .0,
+      λ k h. ap (λ v. getD (set out i v) k 0) (c .substitute .ensures) ∙ fill-by-more (λ k. S (8 * c .args .r + k)) out i 0 within (c .loop-i .inv .1) k h,
+    )
 
 pub returns : need.returns
 unfolding c

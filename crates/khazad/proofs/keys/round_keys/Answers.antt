@@ -28,15 +28,16 @@ loop-r-again c =
     let inv = c .loop-r .inv in
     let within : r < length keys = omega (arith, inv .0) in
     let next : c .add-next .result ≡ K key r =
-          K-next key (c .loop-r .before) (c .loop-r .last) (c .add-next .result) r (inv .1) (inv .2)
-            (c .add-next .ensures ∙ ap (λ z. z ⊕ c .loop-r .before) (c .add .ensures ∙ ap₂ _⊕_ (c .constant .ensures) (c .theta .ensures ∙ ap θ (c .gamma .ensures)))) in
-    (length-set keys r (c .add-next .result) ∙ inv .0,
-     inv .2 ∙ ap (K-from-minus-two key) (sym (add-one r)),
-     next ∙ K-counted key r,
-     λ k l. ap (λ v. getD (set keys r v) k []) next ∙ fill-by-more (K key) keys r [] within (inv .3) k l)
+    K-next key (c .loop-r .before) (c .loop-r .last) (c .add-next .result) r (inv .1) (inv .2)
+    (c .add-next .ensures ∙ ap (λ z. z ⊕ c .loop-r .before) (c .add .ensures ∙ ap₂ _⊕_ (c .constant .ensures) (c .theta .ensures ∙ ap θ (c .gamma .ensures)))) in (
+      length-set keys r (c .add-next .result) ∙ inv .0,
+      inv .2 ∙ ap (K-from-minus-two key) (sym (add-one r)),
+      next ∙ K-counted key r,
+      λ k l. ap (λ v. getD (set keys r v) k []) next ∙ fill-by-more (K key) keys r [] within (inv .3) k l,
+    )
 
 pub returns : need.returns
 returns c =
     let key : c .halves .result .0 ++ c .halves .result .1 ≡ c .args .key =
-          ap₂ _++_ (c .halves .ensures .first) (c .halves .ensures .second) ∙ take-append-drop 8 (c .args .key) in
+    ap₂ _++_ (c .halves .ensures .first) (c .halves .ensures .second) ∙ take-append-drop 8 (c .args .key) in
     fill-by-all (K (c .args .key)) (c .loop-r .keys) 9 [] (c .loop-r .inv .0) (λ k l. c .loop-r .inv .3 k (omega arith) ∙ ap (λ q. K q k) key)

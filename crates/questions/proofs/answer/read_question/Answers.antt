@@ -20,16 +20,16 @@ pub returns-in-rest-3 : need.returns-in-rest-3
 unfolding question-of
 returns-in-rest-3 c =
     asked-same (c .in-Some .ensures tt) (c .in-Some-operation-named .ensures tt) (sym (c .in-Some-2 .is) ∙ c .in-Continue-key .ensures tt)
-      (sym (c .in-rest-3 .is) ∙ c .in-Continue-exact-bytes .ensures tt) refl
+    (sym (c .in-rest-3 .is) ∙ c .in-Continue-exact-bytes .ensures tt) refl
 
 pub returns-in-rest-4 : need.returns-in-rest-4
 unfolding question-of
 returns-in-rest-4 c =
     asked-same (c .in-Some .ensures tt) (c .in-Some-operation-named .ensures tt) (sym (c .in-Some-2 .is) ∙ c .in-Continue-key .ensures tt)
-      (sym (c .in-Some-3 .is) ∙ c .in-Continue-exact-bytes .ensures tt) (sym (c .in-rest-4 .is) ∙ c .in-Continue-text .ensures tt)
+    (sym (c .in-Some-3 .is) ∙ c .in-Continue-exact-bytes .ensures tt) (sym (c .in-rest-4 .is) ∙ c .in-Continue-text .ensures tt)
 
 pub returns : need.returns
 unfolding question-of
 returns c =
     asked-same (c .in-Some .ensures tt) (c .in-Some-operation-named .ensures tt) (sym (c .in-Some-2 .is) ∙ c .in-Continue-key .ensures tt)
-      (sym (c .in-Some-3 .is) ∙ c .in-Continue-exact-bytes .ensures tt) (sym (c .in-Some-4 .is) ∙ c .in-Continue-text .ensures tt)
+    (sym (c .in-Some-3 .is) ∙ c .in-Continue-exact-bytes .ensures tt) (sym (c .in-Some-4 .is) ∙ c .in-Continue-text .ensures tt)
