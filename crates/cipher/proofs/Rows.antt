@@ -1,7 +1,7 @@
 -- Rows of bytes, and ⊕ on them.
 use mathlib.Core.Path.{_≡_, refl, sym, ap, ap₂, _∙_}
 use mathlib.Core.List.{List, [], _∷_, _++_}
-use Prim.Native.Nat.{ℕ, suc, _+_, _<_, _≤_, _-_}
+use Prim.Native.Nat.{ℕ, _+_, _<_, _-_}
 use native.Mathlib.Omega.{arith}
 use lib.Bits.{bitXor, xor-assoc, xor-comm, xor-self, xor-zero-r, xor-lt}
 use lib.ListN.{length, getD, take, drop}

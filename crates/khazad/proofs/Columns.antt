@@ -1,15 +1,15 @@
 -- A row times a matrix, column by column.
-use mathlib.Core.Path.{_≡_, refl, sym, ap, ap₂, _∙_}
-use mathlib.Core.List.{List, [], _∷_, map}
-use Prim.Native.Nat.{ℕ, zero, suc, _+_, _*_, _<_, _≤_}
+use mathlib.Core.Path.{_≡_, sym, ap, ap₂, _∙_}
+use mathlib.Core.List.{List, [], _∷_}
+use Prim.Native.Nat.{ℕ, _+_, _*_, _<_, _≤_}
 use native.Mathlib.Omega.{arith}
 use lib.Bits.{bitXor, xor-assoc, xor-zero-r}
-use lib.ListN.{length, getD, drop, replicate}
+use lib.ListN.{length, getD, drop}
 use Rattle.std.proofs.shelf.Lanes.{getD-zip2}
 use Rattle.std.proofs.shelf.Lists.{getD-map, getD-replicate, drop-more, drop-all}
 use Rattle.std.specs.shelf.Lists.{All, joined}
-use Rattle.cipher.specs.Block.{Byte, Bytes, _⊕_}
-use Rattle.khazad.specs.Khazad.{mul, H, H-row, scaled, product, θ}
+use Rattle.cipher.specs.Block.{Byte, Bytes}
+use Rattle.khazad.specs.Khazad.{mul, H, scaled, product, θ}
 use Rattle.khazad.proofs.Layers.{Wide, H-wide, scaled-bytes, product-bytes}
 use Rattle.cipher.proofs.Computed.{agree-pairs}
 

@@ -1,8 +1,8 @@
 // The box S, worked out from its two mini-boxes.
 
 ghost use mathlib.Core.Path.{_≡_};
-ghost use Prim.Native.Nat.{ℕ, _<_};
-ghost use Rattle.khazad.specs.Khazad.{P, Q, S, boxed, exchanged};
+ghost use Prim.Native.Nat.{_<_};
+ghost use Rattle.khazad.specs.Khazad.{P, Q, S, exchanged};
 
 const MINI_P: [u8; 16] = [
     0x3, 0xF, 0xE, 0x0, 0x5, 0x4, 0xB, 0xC,

@@ -1,12 +1,12 @@
 -- The question that five words ask, and what is said to it.
-use mathlib.Core.Path.{_≡_, refl, sym, ap, ap₂, _∙_}
+use mathlib.Core.Path.{_≡_, refl, ap, ap₂, _∙_}
 use mathlib.Core.List.{List}
 use Prim.Native.Nat.{ℕ}
 use Rattle.std.specs.declared.option.Option.{Option}
-use Rattle.std.specs.declared.option.Option.the-variants.{Some, None}
+use Rattle.std.specs.declared.option.Option.the-variants.{Some}
 use Rattle.cipher.specs.Block.{be-bytes, be-number}
 use Rattle.khazad.specs.Khazad.{enciphered, deciphered}
-use Rattle.questions.specs.Answer.{asked, chosen, map-of, Said, bytes, said-to}
+use Rattle.questions.specs.Answer.{asked, chosen, map-of, bytes, said-to}
 use Rattle.questions.specs.declared.question.Engine.{Engine}
 use Rattle.questions.specs.declared.question.Engine.the-variants.{KhazadField}
 use Rattle.questions.specs.declared.question.Operation.{Operation}

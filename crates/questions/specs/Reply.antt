@@ -1,6 +1,6 @@
 -- The text of a reply, and the count of replies.
 -- Words: shown, none-counted, one-more, counted, tally-line.
-use mathlib.Core.List.{List, _∷_, _++_}
+use mathlib.Core.List.{List, _++_}
 use Prim.Native.Nat.{ℕ, _+_, _-_, _^_, min}
 use lib.Chars.{codes}
 use Rattle.std.specs.Of.Vec.{vec-items}

@@ -1,4 +1,4 @@
-use mathlib.Core.Path.{_≡_, sym, ap, _∙_}
+use mathlib.Core.Path.{sym, _∙_}
 use Rattle.cipher.proofs.Rows.{of-array}
 use Rattle.cipher.proofs.Numbers.{number-places}
 use Rattle.cipher.proofs.block.block_of.Needs as need

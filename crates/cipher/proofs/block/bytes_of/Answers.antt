@@ -1,5 +1,4 @@
-use mathlib.Core.Path.{_≡_, sym, ap, _∙_}
-use Rattle.cipher.specs.Block.{be-bytes}
+use mathlib.Core.Path.{sym, _∙_}
 use Rattle.cipher.proofs.Numbers.{block-places}
 use Rattle.cipher.proofs.block.bytes_of.Needs as need
 

@@ -2,7 +2,6 @@ use mathlib.Core.Path.{_≡_}
 use mathlib.Core.List.{[]}
 use Prim.Native.Nat.{_-_}
 use lib.ListN.{getD}
-use Rattle.cipher.specs.Block.{_⊕_}
 use Rattle.khazad.specs.Khazad.{rounds}
 use Rattle.khazad.proofs.engine.run.Given as given
 

@@ -1,9 +1,9 @@
 use mathlib.Core.Path.{_≡_, sym, ap, _∙_}
-use Prim.Native.Nat.{ℕ, _+_, _-_, _*_, _/_, _%_}
+use Prim.Native.Nat.{_+_, _-_, _*_, _/_, _%_}
 use native.Mathlib.Omega.{arith}
 use lib.Bits.{bitXor}
 use borrow.Author.Needs.{needs}
-use Rattle.khazad.specs.Khazad.{times, mul, dbl}
+use Rattle.khazad.specs.Khazad.{times, mul}
 use Rattle.khazad.proofs.Products.{one-bit-more, no-bit-more, share-standing, share-clear}
 use Rattle.khazad.proofs.field.product.Needs as need
 use Rattle.khazad.proofs.field.product.Needs.{then-bits-eq1, else-bits-eq1}

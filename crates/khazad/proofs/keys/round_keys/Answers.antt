@@ -1,16 +1,15 @@
 use mathlib.Core.Path.{_≡_, refl, sym, ap, ap₂, _∙_}
-use mathlib.Core.List.{List, [], _++_}
-use Prim.Native.Nat.{ℕ, suc, _<_}
+use mathlib.Core.List.{[], _++_}
+use Prim.Native.Nat.{_<_}
 use native.Mathlib.Numerals.{add-one}
 use native.Mathlib.Omega.{arith}
-use borrow.Author.Needs.{needs}
-use lib.ListN.{length, getD, set, take, drop}
+use lib.ListN.{length, getD, set}
 use Rattle.std.proofs.shelf.Counted.{fill-by-all}
 use Rattle.std.proofs.shelf.Edits.{fill-by-more}
 use Rattle.std.proofs.shelf.Lists.{length-set, take-append-drop}
 use Rattle.cipher.specs.Block.{_⊕_}
 use Rattle.cipher.proofs.Rows.{of-array, take-bytes}
-use Rattle.khazad.specs.Khazad.{c, γ, θ, K, K-from-minus-two}
+use Rattle.khazad.specs.Khazad.{c, θ, K, K-from-minus-two}
 use Rattle.khazad.proofs.Schedule.{K-next, K-counted, K-minus-two, K-minus-one}
 use Rattle.khazad.proofs.keys.round_keys.Needs as need
 

@@ -2,7 +2,6 @@ use mathlib.Core.Path.{_≡_}
 use Prim.Native.Nat.{ℕ, _<_}
 use lib.Bits.{bitXor}
 use lib.ListN.{length, getD}
-use Rattle.khazad.specs.Khazad.{S, θ}
 use Rattle.khazad.proofs.layer.add.Given as given
 
 abbrev pub Inv-loop-i : given.InvT-loop-i

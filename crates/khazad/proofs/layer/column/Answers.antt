@@ -1,11 +1,10 @@
-use mathlib.Core.Path.{_≡_, refl, sym, ap, _∙_}
-use mathlib.Core.List.{List, []}
-use Prim.Native.Nat.{ℕ, _<_, _+_}
+use mathlib.Core.Path.{sym, ap, _∙_}
+use Prim.Native.Nat.{_<_, _+_}
 use native.Mathlib.Omega.{arith}
 use lib.Bits.{bitXor}
 use lib.ListN.{length, drop, getD}
 use Rattle.cipher.proofs.Rows.{of-array}
-use Rattle.khazad.specs.Khazad.{H, mul, θ}
+use Rattle.khazad.specs.Khazad.{H, mul}
 use Rattle.khazad.proofs.Columns.{dot, θ-at, one-byte-more, no-byte-more, H-entry}
 use Rattle.khazad.proofs.layer.column.Needs as need
 

@@ -1,4 +1,4 @@
-use mathlib.Core.Path.{_≡_, sym, _∙_}
+use mathlib.Core.Path.{sym, _∙_}
 use native.Mathlib.Omega.{arith}
 use Rattle.cipher.proofs.Rows.{of-array, same-places}
 use Rattle.khazad.specs.Khazad.{γ}

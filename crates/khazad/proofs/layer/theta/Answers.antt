@@ -1,4 +1,3 @@
-use mathlib.Core.Path.{_≡_}
 use native.Mathlib.Omega.{arith}
 use Rattle.cipher.proofs.Rows.{of-array, same-places}
 use Rattle.khazad.specs.Khazad.{θ}

@@ -1,8 +1,7 @@
 use mathlib.Core.Path.{_≡_}
 use Prim.Native.Nat.{ℕ, _<_}
-use lib.Bits.{bitXor}
 use lib.ListN.{length, getD}
-use Rattle.khazad.specs.Khazad.{S, θ}
+use Rattle.khazad.specs.Khazad.{θ}
 use Rattle.khazad.proofs.layer.theta.Given as given
 
 abbrev pub Inv-loop-j : given.InvT-loop-j

@@ -1,4 +1,3 @@
-use mathlib.Core.Path.{_≡_}
 use native.Mathlib.Omega.{arith}
 use Rattle.khazad.proofs.Boxes.{upper-is, lower-is}
 use Rattle.khazad.proofs.sbox.exchange.Needs as need

@@ -1,5 +1,5 @@
 -- The empty word, the dash and any other word.
-use mathlib.Core.Path.{_≡_, _∙_}
+use mathlib.Core.Path.{_∙_}
 use borrow.Author.Needs.{needs}
 use Rattle.std.proofs.shelf.Results.{made-weaker}
 use Rattle.questions.proofs.Digits.{empty-word-says-nothing, dash-says-no-bytes, other-word-is-digits}
