@@ -31,7 +31,7 @@ module _ (ks : ℕ → List ℕ) (a : List ℕ) where
       hl ∙ ap (λ z. z ⊕ ks 8) (hb ∙ ap γ (ht ∙ ap₂ (rounds ks) at hs))
 
 -- nine keys made by a rule, each at its number
-numbered : (f : ℕ → List ℕ) (keys : List (List ℕ)) → keys ≡ map f (counting 0 9) → (n : ℕ) → n < 9 → by-number keys n ≡ f n
+pub numbered : (f : ℕ → List ℕ) (keys : List (List ℕ)) → keys ≡ map f (counting 0 9) → (n : ℕ) → n < 9 → by-number keys n ≡ f n
 numbered f keys h n l = ap (λ ks. getD ks n []) h ∙ getD-map-counting f 0 9 n n [] l (omega arith)
 
 module _ (key : List ℕ) (forward : List (List ℕ)) (of-key : forward ≡ map (K key) (counting 0 9)) where
