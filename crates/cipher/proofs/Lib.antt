@@ -1,3 +1,5 @@
 pub mod Rows
 pub mod Numbers
 pub mod Computed
+pub mod Wholes
+pub mod Inverses

@@ -4,13 +4,20 @@
 --   be-bytes        the bytes that write a number, first byte most significant (big-endian)
 --   be-number       the number that bytes write, first byte most significant
 --   _⊕_             exclusive or, byte by byte
+--   first-blocks    the first n blocks of a row of bytes
+--   as-blocks       the whole blocks of a row of bytes
+--   as-bytes        the bytes that write a row of blocks
+--   is-whole        whether a row of bytes is whole blocks
+--   DifferInOneBlock    two rows of bytes differ inside just one block
 -- Assumes nothing.
 use mathlib.Core.Path.{_≡_}
+use mathlib.Core.Bool.{Bool}
 use mathlib.Core.List.{List, [], _∷_, _++_}
-use Prim.Native.Nat.{ℕ, zero, suc, _/_, _%_, _^_, _<_}
+use Prim.Native.Nat.{ℕ, zero, suc, _+_, _*_, _/_, _%_, _^_, _<_}
 use lib.Bits.{bitXor}
+use lib.Dec.{eqb}
 use lib.Lanes.{zip2}
-use lib.ListN.{length}
+use lib.ListN.{length, take, drop}
 use Rattle.std.specs.shelf.Digits.{number}
 use Rattle.std.specs.shelf.Lists.{All}
 
@@ -40,3 +47,28 @@ abbrev pub _⊕_ : List ℕ → List ℕ → List ℕ
 a ⊕ b = zip2 bitXor a b
 
 infixl 60 _⊕_
+
+-- ---- rows of bytes as rows of blocks
+
+unfoldable pub first-blocks : ℕ → List ℕ → List ℕ
+first-blocks zero xs = []
+first-blocks (suc n) xs = be-number (take 8 xs) ∷ first-blocks n (drop 8 xs)
+
+-- up to seven bytes that are left over at the end do not count
+unfoldable pub as-blocks : List ℕ → List ℕ
+as-blocks xs = first-blocks (length xs / 8) xs
+
+unfoldable pub as-bytes : List ℕ → List ℕ
+as-bytes [] = []
+as-bytes (b ∷ bs) = be-bytes 8 b ++ as-bytes bs
+
+abbrev pub is-whole : List ℕ → Bool
+is-whole xs = eqb (length xs % 8) 0
+
+-- two rows are as long, and differ, and all that differs lies inside one of the blocks
+pub record DifferInOneBlock (xs ys : List ℕ) : Type 0 where
+  pub as-long : length xs ≡ length ys
+  pub differ : xs ≡ ys → ⊥
+  pub place : ℕ
+  pub same-before : take (8 * place) xs ≡ take (8 * place) ys
+  pub same-after : drop (8 * place + 8) xs ≡ drop (8 * place + 8) ys
