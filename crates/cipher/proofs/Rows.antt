@@ -23,6 +23,10 @@ use Rattle.cipher.specs.Block.{Byte, Bytes, _⊕_}
 pub of-array : {n : ℕ} (xs : List ℕ) (vs : List Val) → Is (Array (UInt w8) n) xs vs → Bytes n xs
 of-array xs vs g = (g .1 .0 .1, all-from-getD Byte xs 0 (λ i h. let f : Fits w8 (getD xs i 0) = search needs in fits-lt-pow f))
 
+-- what is known of a slice of bytes
+pub of-slice : (xs : List ℕ) → ((i : ℕ) → Fits w8 (getD xs i 0)) → All Byte xs
+of-slice xs fits = all-from-getD Byte xs 0 (λ i h. fits-lt-pow (fits i))
+
 -- a row of eight is its eight places
 pub eight-places : (xs : List ℕ) → length xs ≡ 8 →
     xs ≡ getD xs 0 0 ∷ getD xs 1 0 ∷ getD xs 2 0 ∷ getD xs 3 0 ∷ getD xs 4 0 ∷ getD xs 5 0 ∷ getD xs 6 0 ∷ getD xs 7 0 ∷ []

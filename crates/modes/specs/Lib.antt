@@ -1,0 +1,4 @@
+pub mod InPlace
+pub mod Ecb
+pub mod Cbc
+pub mod Cmac
