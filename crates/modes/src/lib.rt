@@ -6,12 +6,12 @@
 // Nothing here says that a mode hides or vouches for anything: ECB shows which blocks are equal, and a tag is worth what
 // its key and its cipher are worth.
 
-//T mod cbc;
+mod cbc;
 //T mod cmac;
 mod ecb;
 
-//T pub use cbc::cbc_decipher;
-//T pub use cbc::cbc_encipher;
+pub use cbc::cbc_decipher;
+pub use cbc::cbc_encipher;
 //T pub use cmac::cmac;
 pub use ecb::ecb_decipher;
 pub use ecb::ecb_encipher;
