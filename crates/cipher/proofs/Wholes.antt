@@ -35,9 +35,9 @@ pub first-blocks-blocks : (n : ℕ) (xs : List ℕ) → All Byte xs → 8 * n �
 unfolding first-blocks
 first-blocks-blocks zero xs each room = tt
 first-blocks-blocks (suc n) xs each room = (
-    number-block (take 8 xs) (first-eight xs each (omega arith)),
-    first-blocks-blocks n (drop 8 xs) (all-drop Byte 8 xs each) (omega (arith, length-drop 8 xs)),
-  )
+  number-block (take 8 xs) (first-eight xs each (omega arith)),
+  first-blocks-blocks n (drop 8 xs) (all-drop Byte 8 xs each) (omega (arith, length-drop 8 xs)),
+)
 
 pub as-blocks-blocks : (xs : List ℕ) → All Byte xs → All Block (as-blocks xs)
 unfolding as-blocks
@@ -60,7 +60,7 @@ as-bytes-one b = append-nil (be-bytes 8 b)
 
 -- ---- there and back
 
-first-blocks-of-bytes : (b : ℕ) (n : ℕ) (xs : List ℕ) → Block b → first-blocks (suc n) (be-bytes 8 b ++ xs) ≡ b ∷ first-blocks n xs
+pub first-blocks-of-bytes : (b : ℕ) (n : ℕ) (xs : List ℕ) → Block b → first-blocks (suc n) (be-bytes 8 b ++ xs) ≡ b ∷ first-blocks n xs
 unfolding first-blocks
 first-blocks-of-bytes b n xs h =
     ap₂ (λ front rest. be-number front ∷ first-blocks n rest) (take-at (be-bytes 8 b) xs 8 (block-bytes b .0)) (drop-at (be-bytes 8 b) xs 8 (block-bytes b .0))

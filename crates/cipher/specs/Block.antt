@@ -47,7 +47,6 @@ abbrev pub _⊕_ : List ℕ → List ℕ → List ℕ
 a ⊕ b = zip2 bitXor a b
 
 infixl 60 _⊕_
-
 -- ---- rows of bytes as rows of blocks
 
 unfoldable pub first-blocks : ℕ → List ℕ → List ℕ

@@ -112,12 +112,12 @@ module _ (there back : List ℕ → List ℕ) (undoes : Undoes there back) (buff
       let left = as-bytes (there blocks) in
       ⊎-elim
       (λ whole.
-        let w = eqb-true (length buffer % 8) 0 whole in
-        let long : length left % 8 ≡ 0 = omega (arith, length-as-bytes (there blocks)) in
-        ap (left-by back) (cond-true (is-whole buffer) left buffer whole)
-        ∙ cond-true (is-whole left) (as-bytes (back (as-blocks left))) left (eq-eqb (length left % 8) 0 long)
-        ∙ ap (λ bs. as-bytes (back bs)) (as-blocks-as-bytes (there blocks) (undoes .to-blocks blocks (as-blocks-blocks buffer each)))
-        ∙ ap as-bytes (undoes .back-again blocks (as-blocks-blocks buffer each))
-        ∙ as-bytes-as-blocks buffer each w)
+      let w = eqb-true (length buffer % 8) 0 whole in
+      let long : length left % 8 ≡ 0 = omega (arith, length-as-bytes (there blocks)) in
+      ap (left-by back) (cond-true (is-whole buffer) left buffer whole)
+      ∙ cond-true (is-whole left) (as-bytes (back (as-blocks left))) left (eq-eqb (length left % 8) 0 long)
+      ∙ ap (λ bs. as-bytes (back bs)) (as-blocks-as-bytes (there blocks) (undoes .to-blocks blocks (as-blocks-blocks buffer each)))
+      ∙ ap as-bytes (undoes .back-again blocks (as-blocks-blocks buffer each))
+      ∙ as-bytes-as-blocks buffer each w)
       (λ ragged. ap (left-by back) (cond-false (is-whole buffer) left buffer ragged) ∙ cond-false (is-whole buffer) (as-bytes (back blocks)) buffer ragged)
       (cases-bool (is-whole buffer))

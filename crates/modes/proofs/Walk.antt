@@ -42,12 +42,12 @@ module _ (mode : ℕ → List ℕ → List ℕ) (start : ℕ) (was : List ℕ) w
       let here : be-number (between (8 * i) (8 * i + 8) was) ≡ block = ap (λ z. be-number (take (8 * i + 8 - 8 * i) z)) (sym (w .rest)) ∙ sym read in
       let blocks : as-blocks (drop (8 * i) was) ≡ block ∷ as-blocks (drop (8 * (i + 1)) was) = as-blocks-at i was room ∙ ap (λ z. z ∷ as-blocks (drop (8 * (i + 1)) was)) here in
       let tail = as-bytes (mode on (as-blocks (drop (8 * (i + 1)) was))) in
-      record
-        { rest = dropped ∙ further is ∙ ap (drop 8) (w .rest) ∙ sym (further was)
-        ; front =
+      record {
+        rest = dropped ∙ further is ∙ ap (drop 8) (w .rest) ∙ sym (further was);
+        front =
             ap (λ z. z ++ tail) taken ∙ append-assoc front bytes tail ∙ ap (λ bs. front ++ as-bytes bs) (sym (step (as-blocks (drop (8 * (i + 1)) was))))
-            ∙ ap (λ bs. front ++ as-bytes (mode state bs)) (sym blocks) ∙ w .front
-        }
+            ∙ ap (λ bs. front ++ as-bytes (mode state bs)) (sym blocks) ∙ w .front;
+      }
 
   -- at the end of whole blocks
   pub walk-all : (i state : ℕ) (is : List ℕ) → Walked mode start was i state is → length is ≡ length was → length was ≤ 8 * i

@@ -7,11 +7,11 @@
 // its key and its cipher are worth.
 
 mod cbc;
-//T mod cmac;
 mod ecb;
+mod tag;
 
 pub use cbc::cbc_decipher;
 pub use cbc::cbc_encipher;
-//T pub use cmac::cmac;
 pub use ecb::ecb_decipher;
 pub use ecb::ecb_encipher;
+pub use tag::cmac;
