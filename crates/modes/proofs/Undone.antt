@@ -97,9 +97,12 @@ module _ (there back : ℕ → ℕ) (law : Inverse there back) where
 
 -- ---- of buffers
 
--- whole blocks are granted, and what is written over them is what is left
-pub granted : (buffer : List ℕ) → length buffer % 8 ≡ 0 → Ok tt ≡ answered buffer
-granted buffer whole = sym (cond-true (is-whole buffer) (Ok tt) (Err NotWholeBlocks) (eq-eqb (length buffer % 8) 0 whole))
+-- what is granted is whole blocks, and what is written over them is what is left
+pub granted-whole : (buffer : List ℕ) → Ok tt ≡ answered buffer → length buffer % 8 ≡ 0
+granted-whole buffer e =
+    ⊎-elim (λ whole. eqb-true (length buffer % 8) 0 whole)
+    (λ ragged. let no = e ∙ cond-false (is-whole buffer) (Ok tt) (Err NotWholeBlocks) ragged in absurd (let z : _≡_ {A = ℕ} 0 1 = cc in omega arith))
+    (cases-bool (is-whole buffer))
 
 pub left-whole : (mode : List ℕ → List ℕ) (buffer left : List ℕ) → length buffer % 8 ≡ 0 → left ≡ as-bytes (mode (as-blocks buffer)) → left ≡ left-by mode buffer
 left-whole mode buffer left whole made = made ∙ sym (cond-true (is-whole buffer) (as-bytes (mode (as-blocks buffer))) buffer (eq-eqb (length buffer % 8) 0 whole))

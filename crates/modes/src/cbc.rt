@@ -6,6 +6,7 @@ ghost use lib.ListN.{length};
 ghost use Rattle.cipher.specs.Block.{as-blocks, as-bytes};
 ghost use Rattle.modes.specs.InPlace.{answered, left-by};
 ghost use Rattle.modes.specs.Cbc.{cbc-enciphered, cbc-deciphered};
+use crate::whole::whole_blocks;
 use cipher::Cipher;
 use cipher::block_at;
 use cipher::put_block;
@@ -17,9 +18,7 @@ pub fn cbc_encipher<C: Cipher>(cipher: &C, start: u64, buffer: &mut [u8]) -> Res
     ensures written { λ _. ⌜ now (buffer .exit) ≡ left-by (cbc-enciphered (C·Cipher .enciphered (C·Cipher .key (now (cipher .entry)))) start) (now (buffer .entry)) ⌝ }
     ensures undone { λ _. ⌜ left-by (cbc-deciphered (C·Cipher .deciphered (C·Cipher .key (now (cipher .entry)))) start) (now (buffer .exit)) ≡ now (buffer .entry) ⌝ }
 {
-    if buffer.len() % 8 != 0 {
-        return Err(Refusal::NotWholeBlocks);
-    }
+    whole_blocks(buffer)?;
     encipher_chained(cipher, start, buffer);
     Ok(())
 }
@@ -30,9 +29,7 @@ pub fn cbc_decipher<C: Cipher>(cipher: &C, start: u64, buffer: &mut [u8]) -> Res
     ensures written { λ _. ⌜ now (buffer .exit) ≡ left-by (cbc-deciphered (C·Cipher .deciphered (C·Cipher .key (now (cipher .entry)))) start) (now (buffer .entry)) ⌝ }
     ensures undone { λ _. ⌜ left-by (cbc-enciphered (C·Cipher .enciphered (C·Cipher .key (now (cipher .entry)))) start) (now (buffer .exit)) ≡ now (buffer .entry) ⌝ }
 {
-    if buffer.len() % 8 != 0 {
-        return Err(Refusal::NotWholeBlocks);
-    }
+    whole_blocks(buffer)?;
     decipher_chained(cipher, start, buffer);
     Ok(())
 }
@@ -58,9 +55,9 @@ fn decipher_chained<C: Cipher>(cipher: &C, start: u64, blocks: &mut [u8])
     let count = blocks.len() / 8;
     let mut before = start;
     for i in 0..count {
-        let enciphered = block_at(blocks, 8 * i);
-        let plain = cipher.decipher(enciphered) ^ before;
+        let block = block_at(blocks, 8 * i);
+        let plain = cipher.decipher(block) ^ before;
         put_block(blocks, 8 * i, plain);
-        before = enciphered;
+        before = block;
     }
 }

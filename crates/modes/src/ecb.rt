@@ -6,6 +6,7 @@ ghost use lib.ListN.{length};
 ghost use Rattle.cipher.specs.Block.{as-blocks, as-bytes};
 ghost use Rattle.modes.specs.InPlace.{answered, left-by};
 ghost use Rattle.modes.specs.Ecb.{ecb};
+use crate::whole::whole_blocks;
 use cipher::Cipher;
 use cipher::block_at;
 use cipher::put_block;
@@ -17,9 +18,7 @@ pub fn ecb_encipher<C: Cipher>(cipher: &C, buffer: &mut [u8]) -> Result<(), Refu
     ensures written { λ _. ⌜ now (buffer .exit) ≡ left-by (ecb (C·Cipher .enciphered (C·Cipher .key (now (cipher .entry))))) (now (buffer .entry)) ⌝ }
     ensures undone { λ _. ⌜ left-by (ecb (C·Cipher .deciphered (C·Cipher .key (now (cipher .entry))))) (now (buffer .exit)) ≡ now (buffer .entry) ⌝ }
 {
-    if buffer.len() % 8 != 0 {
-        return Err(Refusal::NotWholeBlocks);
-    }
+    whole_blocks(buffer)?;
     encipher_each(cipher, buffer);
     Ok(())
 }
@@ -30,9 +29,7 @@ pub fn ecb_decipher<C: Cipher>(cipher: &C, buffer: &mut [u8]) -> Result<(), Refu
     ensures written { λ _. ⌜ now (buffer .exit) ≡ left-by (ecb (C·Cipher .deciphered (C·Cipher .key (now (cipher .entry))))) (now (buffer .entry)) ⌝ }
     ensures undone { λ _. ⌜ left-by (ecb (C·Cipher .enciphered (C·Cipher .key (now (cipher .entry))))) (now (buffer .exit)) ≡ now (buffer .entry) ⌝ }
 {
-    if buffer.len() % 8 != 0 {
-        return Err(Refusal::NotWholeBlocks);
-    }
+    whole_blocks(buffer)?;
     decipher_each(cipher, buffer);
     Ok(())
 }

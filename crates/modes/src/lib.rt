@@ -9,6 +9,7 @@
 mod cbc;
 mod ecb;
 mod tag;
+mod whole;
 
 pub use cbc::cbc_decipher;
 pub use cbc::cbc_encipher;

@@ -12,14 +12,14 @@ pub loop-i-again : need.loop-i-again
 loop-i-again g c =
     let m = g .C·Cipher in
     let f = m .deciphered (m .key (c .args .cipher .now)) in
-    let enciphered = c .block-at-enciphered .result in
+    let block = c .block-at-block .result in
     let deciphered = c .decipher .result in
     let plain = bitXor deciphered (c .loop-i .before) in (
       c .loop-i .inv .0,
-      omega (arith, c .block-at-enciphered .ok),
-      walk-more (cbc-deciphered f) (c .args .start) (c .args .blocks .now) (c .loop-i .i) (c .loop-i .before) enciphered (c .loop-i .blocks) (c .put-block .last .bytes) enciphered plain
-          (c .loop-i .inv .2) (c .loop-i .kept .blocks) (omega (arith, c .loop-i .inv .0)) (c .block-at-enciphered .ensures)
-          (deciphering-goes-on f enciphered plain (c .loop-i .before) deciphered (c .decipher .ensures) refl) (c .put-block .ensures),
+      omega (arith, c .block-at-block .ok),
+      walk-more (cbc-deciphered f) (c .args .start) (c .args .blocks .now) (c .loop-i .i) (c .loop-i .before) block (c .loop-i .blocks) (c .put-block .last .bytes) block plain
+          (c .loop-i .inv .2) (c .loop-i .kept .blocks) (omega (arith, c .loop-i .inv .0)) (c .block-at-block .ensures)
+          (deciphering-goes-on f block plain (c .loop-i .before) deciphered (c .decipher .ensures) refl) (c .put-block .ensures),
     )
 
 pub returns : need.returns

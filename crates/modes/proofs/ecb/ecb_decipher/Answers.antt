@@ -4,7 +4,7 @@ use Rattle.cipher.proofs.Inverses.{lawful, turned}
 use Rattle.cipher.proofs.Rows.{of-slice}
 use Rattle.modes.specs.InPlace.{left-by}
 use Rattle.modes.specs.Ecb.{ecb}
-use Rattle.modes.proofs.Undone.{granted, left-whole, left-undone, ecb-undone}
+use Rattle.modes.proofs.Undone.{granted-whole, left-whole, left-undone, ecb-undone}
 use Rattle.modes.proofs.ecb.ecb_decipher.Needs as need
 
 pub returns : need.returns
@@ -14,10 +14,10 @@ returns g c =
     let k = m .key (c .args .cipher .now) in
     let law = lawful (m .enciphered) (m .deciphered) (laws .«enciphers_to_blocks») (laws .«deciphers_to_blocks») (laws .«deciphering_undoes») (laws .«enciphering_undoes») k (laws .keyed (c .args .cipher .now)) in
     let buffer = c .args .buffer .now in
-    let whole = c .if-buffer-ne0 .left in
+    let whole = granted-whole buffer (c .in-Continue-whole-blocks .ensures tt) in
     let left = left-whole (ecb (m .deciphered k)) buffer (c .decipher-each .last .blocks) whole (c .decipher-each .ensures) in
     record {
-      result = granted buffer whole;
+      result = c .in-Continue-whole-blocks .ensures tt;
       written = left;
       undone = ap (left-by (ecb (m .enciphered k))) left ∙ left-undone (ecb (m .deciphered k)) (ecb (m .enciphered k)) (ecb-undone (m .deciphered k) (m .enciphered k) (turned law)) buffer (of-slice buffer (λ i. search needs));
     }
