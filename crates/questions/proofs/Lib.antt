@@ -1,4 +1,3 @@
 -- The laws that the proofs of this crate cite.
 mod Asking
-mod Digits
 mod Splitting

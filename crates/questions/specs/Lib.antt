@@ -1,4 +1,3 @@
-pub mod Hex
 pub mod Words
 pub mod Reply
 pub mod Answer

@@ -5,7 +5,8 @@ use Prim.Native.Nat.{ℕ, _+_, _-_, _^_, min}
 use lib.Chars.{codes}
 use Rattle.std.specs.Of.Vec.{vec-items}
 use Rattle.std.specs.Written.{decimal}
-use Rattle.questions.specs.Hex.{shown-bytes}
+use Rattle.hex.specs.Hex.{shown-bytes}
+use Rattle.refusal.specs.Numbers.{number-of}
 use Rattle.questions.specs.declared.reply.Reply.{Reply}
 use Rattle.questions.specs.declared.reply.Reply.the-variants.{Bytes, Refused, NotUnderstood}
 use Rattle.questions.specs.declared.reply.Tally.{Tally}
@@ -13,7 +14,7 @@ use Rattle.questions.specs.declared.reply.Tally.{Tally}
 -- the text of a reply: its bytes as a word, `!` and the number of a refusal, or `?`
 abbrev pub shown : Reply → List ℕ
 shown (Bytes bytes) = shown-bytes (vec-items bytes)
-shown (Refused number) = codes "!" ++ decimal number
+shown (Refused refusal) = codes "!" ++ decimal (number-of refusal)
 shown NotUnderstood = codes "?"
 
 abbrev pub none-counted : Tally
@@ -26,7 +27,7 @@ one-more n = min (n + 1) (2 ^ 64 - 1)
 -- a tally with one reply more, which is counted as what it is and as nothing else
 abbrev pub counted : Tally → Reply → Tally
 counted tally (Bytes bytes) = record { answered = one-more (tally .answered); refused = tally .refused; «not_understood» = tally .«not_understood» }
-counted tally (Refused number) = record { answered = tally .answered; refused = one-more (tally .refused); «not_understood» = tally .«not_understood» }
+counted tally (Refused refusal) = record { answered = tally .answered; refused = one-more (tally .refused); «not_understood» = tally .«not_understood» }
 counted tally NotUnderstood = record { answered = tally .answered; refused = tally .refused; «not_understood» = one-more (tally .«not_understood») }
 
 -- the line that a tally prints

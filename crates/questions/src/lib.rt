@@ -3,7 +3,6 @@
 // A line is `CIPHER OPERATION KEY START TEXT`. `answer::answer` says what is replied to it, whatever bytes it has.
 
 pub mod answer;
-pub mod hex;
 pub mod question;
 pub mod reply;
 pub mod words;

@@ -7,20 +7,32 @@ pub enum Engine {
     KhazadField,
 }
 
-// What is to be done with the text, by the name that a line gives it.
+// A mode that works on the text in place. A chained one has its starting block.
 #[derive(Clone, Copy)]
-pub enum Operation {
+pub enum Mode {
     // `ecb-encipher`
     EcbEncipher,
     // `ecb-decipher`
     EcbDecipher,
+    // `cbc-encipher`
+    CbcEncipher(u64),
+    // `cbc-decipher`
+    CbcDecipher(u64),
 }
 
-// A question that was understood: one block of text, under a key.
+// What is to be done with the text.
 #[derive(Clone, Copy)]
+pub enum Operation {
+    InPlace(Mode),
+    // `cmac`
+    Cmac,
+}
+
+// A question that was understood: a text of any length, under a key.
+#[derive(Drop)]
 pub struct Question {
     pub engine: Engine,
     pub operation: Operation,
     pub key: [u8; 16],
-    pub text: [u8; 8],
+    pub text: Vec<u8>,
 }

@@ -4,16 +4,17 @@ ghost use Rattle.std.specs.Of.String.{string-bytes};
 ghost use Rattle.std.specs.Vec.{made};
 ghost use Rattle.std.specs.declared.option.Option.the-variants.{Some};
 ghost use Rattle.questions.specs.Reply.{shown, none-counted, counted, tally-line};
-use crate::hex;
+use hex::show_bytes;
+use refusal::Refusal;
 use std::alloc::AllocError;
 use std::alloc::Global;
 use std::fmt;
 
-// The answer to one question: bytes, a refusal by its number, or that the line was no question.
+// The answer to one question: bytes, a refusal, or that the line was no question.
 #[derive(Drop)]
 pub enum Reply {
     Bytes(Vec<u8>),
-    Refused(u8),
+    Refused(Refusal),
     NotUnderstood,
 }
 
@@ -23,8 +24,11 @@ impl Reply {
         ensures { λ r. ⌜ made r (λ s. string-bytes s ≡ shown (now (self .entry))) ⌝ }
     {
         match self {
-            Reply::Bytes(bytes) => hex::show_bytes(heap, bytes),
-            Reply::Refused(number) => format!(heap, "!{number}"),
+            Reply::Bytes(bytes) => show_bytes(heap, bytes),
+            Reply::Refused(refusal) => {
+                let number = refusal.number();
+                format!(heap, "!{number}")
+            }
             Reply::NotUnderstood => String::from_str(heap, "?"),
         }
     }

@@ -1,8 +1,9 @@
-use mathlib.Core.Path.{_≡_, sym, ap, _∙_}
-use borrow.Author.Needs.{needs}
+use mathlib.Core.Path.{sym, ap, _∙_}
+use Rattle.std.proofs.shelf.Results.{made-weaker}
 use Rattle.std.specs.Of.Vec.{vec-items}
-use Rattle.questions.specs.Answer.{said-to, said-to-words, answer-to}
-use Rattle.questions.proofs.Asking.{answered}
+use Rattle.std.specs.Options.{mapped}
+use Rattle.questions.specs.Answer.{contents, said, said-to, said-to-words, answer-to}
+use Rattle.questions.proofs.Asking.{by-field-engine}
 use Rattle.questions.proofs.answer.answer.Needs as need
 
 pub returns-in-rest : need.returns-in-rest
@@ -11,12 +12,11 @@ returns-in-rest c = ap said-to-words (c .in-rest .ensures tt)
 
 pub returns-in-rest-2 : need.returns-in-rest-2
 unfolding answer-to
-returns-in-rest-2 c = ap said-to (sym (c .in-rest-2 .is) ∙ c .in-Continue-question .ensures tt) ∙ ap said-to-words (c .in-Some .ensures tt)
+returns-in-rest-2 c = ap (λ o. said-to (mapped contents o)) (sym (c .in-rest-2 .is)) ∙ ap said-to (c .in-Continue-question .ensures tt) ∙ ap said-to-words (c .in-Some .ensures tt)
 
 pub returns : need.returns
 unfolding answer-to
 returns c =
-    let row = vec-items (c .in-Continue-from-slice .field-0) in
-    let copied : row ≡ c .answer-by-bytes .result = search needs in
-    answered (c .in-Some-2 .question) row (c .answer-by-bytes .result) copied (c .answer-by-bytes .ensures)
-    ∙ ap said-to (sym (c .in-Some-2 .is) ∙ c .in-Continue-question .ensures tt) ∙ ap said-to-words (c .in-Some .ensures tt)
+    let q = c .in-Some-2 .question in
+    let asks = ap (λ o. said-to (mapped contents o)) (sym (c .in-Some-2 .is)) ∙ ap said-to (c .in-Continue-question .ensures tt) ∙ ap said-to-words (c .in-Some .ensures tt) in
+    made-weaker (c .answer-by .result) _ _ (λ reply e. by-field-engine (q .engine) (q .key) (vec-items (q .text)) (q .operation) (said reply) e ∙ asks) (c .answer-by .ensures)

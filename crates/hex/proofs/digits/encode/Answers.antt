@@ -2,9 +2,9 @@
 use mathlib.Core.Path.{ap, _∙_}
 use mir.Facts.{fits-lt-pow}
 use Rattle.std.specs.Of.String.{string-bytes}
-use Rattle.questions.specs.Hex.{unhex}
-use Rattle.questions.proofs.Digits.{two-pushes-write-a-byte, all-written, all-bytes, unhex-undoes-hex}
-use Rattle.questions.proofs.hex.encode.Needs as need
+use Rattle.hex.specs.Hex.{unhex}
+use Rattle.hex.proofs.Laws.{two-pushes-write-a-byte, all-written, all-bytes, unhex-undoes-hex}
+use Rattle.hex.proofs.digits.encode.Needs as need
 
 pub loop-byte-again : need.loop-byte-again
 loop-byte-again c =

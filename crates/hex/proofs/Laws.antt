@@ -20,7 +20,7 @@ use Rattle.std.specs.shelf.Lists.{All}
 use Rattle.std.specs.shelf.Text.{sameBytes}
 use Rattle.std.specs.declared.option.Option.{Option}
 use Rattle.std.specs.declared.option.Option.the-variants.{Some, None}
-use Rattle.questions.specs.Hex.{digit, pair, before, unhex, mark, hex, word-bytes, shown-bytes}
+use Rattle.hex.specs.Hex.{digit, pair, before, unhex, mark, hex, word-bytes, shown-bytes}
 
 -- ---- reading
 

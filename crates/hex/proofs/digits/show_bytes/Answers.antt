@@ -2,9 +2,9 @@
 use mathlib.Core.Path.{ap, _∙_}
 use borrow.Author.Tests.{true-eqb, false-eqb}
 use Rattle.std.proofs.shelf.Results.{made-weaker}
-use Rattle.questions.specs.Hex.{word-bytes}
-use Rattle.questions.proofs.Digits.{no-bytes-are-a-dash, some-bytes-are-digits, all-bytes, reading-undoes-showing}
-use Rattle.questions.proofs.hex.show_bytes.Needs as need
+use Rattle.hex.specs.Hex.{word-bytes}
+use Rattle.hex.proofs.Laws.{no-bytes-are-a-dash, some-bytes-are-digits, all-bytes, reading-undoes-showing}
+use Rattle.hex.proofs.digits.show_bytes.Needs as need
 
 pub returns-then-is-empty : need.returns-then-is-empty
 returns-then-is-empty c =

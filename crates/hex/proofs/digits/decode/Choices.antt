@@ -2,9 +2,9 @@
 use mathlib.Core.Path.{_≡_}
 use lib.ListN.{length}
 use Rattle.std.specs.Of.Vec.{vec-items}
-use Rattle.questions.specs.Hex.{unhex}
-use Rattle.questions.proofs.Digits.{behind}
-use Rattle.questions.proofs.hex.decode.Given as given
+use Rattle.hex.specs.Hex.{unhex}
+use Rattle.hex.proofs.Laws.{behind}
+use Rattle.hex.proofs.digits.decode.Given as given
 
 abbrev pub Inv-loop-rest : given.InvT-loop-rest
 Inv-loop-rest l = behind (vec-items (l .bytes)) (unhex (l .rest)) ≡ unhex (l .text)

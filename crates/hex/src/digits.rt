@@ -6,7 +6,7 @@ ghost use Rattle.std.specs.Of.Vec.{vec-items};
 ghost use Rattle.std.specs.Options.{mapped};
 ghost use Rattle.std.specs.Vec.{made};
 ghost use Rattle.std.specs.declared.option.Option.the-variants.{Some};
-ghost use Rattle.questions.specs.Hex.{digit, pair, unhex, mark, hex, word-bytes, shown-bytes};
+ghost use Rattle.hex.specs.Hex.{digit, pair, unhex, mark, hex, word-bytes, shown-bytes};
 use std::alloc::AllocError;
 use std::alloc::Global;
 

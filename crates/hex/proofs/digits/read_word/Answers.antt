@@ -2,8 +2,8 @@
 use mathlib.Core.Path.{_∙_}
 use borrow.Author.Needs.{needs}
 use Rattle.std.proofs.shelf.Results.{made-weaker}
-use Rattle.questions.proofs.Digits.{empty-word-says-nothing, dash-says-no-bytes, other-word-is-digits}
-use Rattle.questions.proofs.hex.read_word.Needs as need
+use Rattle.hex.proofs.Laws.{empty-word-says-nothing, dash-says-no-bytes, other-word-is-digits}
+use Rattle.hex.proofs.digits.read_word.Needs as need
 
 pub returns-in-empty : need.returns-in-empty
 returns-in-empty c = empty-word-says-nothing (c .args .word .now) (search needs)

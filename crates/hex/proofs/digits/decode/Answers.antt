@@ -6,8 +6,8 @@ use borrow.Author.Tests.{true-eqb, false-eqb}
 use lib.ListN.{length}
 use Prim.Native.Nat.{_≤_, _<_}
 use Rattle.std.specs.Of.Vec.{vec-items}
-use Rattle.questions.proofs.Digits.{pair-is-a-byte-more, no-pair-writes-nothing, nothing-left, one-digit-left}
-use Rattle.questions.proofs.hex.decode.Needs as need
+use Rattle.hex.proofs.Laws.{pair-is-a-byte-more, no-pair-writes-nothing, nothing-left, one-digit-left}
+use Rattle.hex.proofs.digits.decode.Needs as need
 
 pub returns-in-rest-byte-value : need.returns-in-rest-byte-value
 returns-in-rest-byte-value c =

@@ -1,0 +1,2 @@
+-- The laws that the proofs of this crate cite.
+pub mod Laws
