@@ -3,7 +3,8 @@
 ghost use mathlib.Core.Path.{_≡_};
 ghost use mathlib.Core.List.{List};
 ghost use Prim.Native.Nat.{ℕ};
-ghost use Rattle.cipher.specs.Block.{Block, Key};
+ghost use Rattle.cipher.specs.Block.{Key};
+ghost use Rattle.cipher.specs.Inverse.{Lawful};
 
 // A value is a prepared key. It answers by the two maps of the key that it stands for, as often as it is asked.
 pub trait Cipher: Sized {
@@ -17,13 +18,8 @@ pub trait Cipher: Sized {
 
     law keyed: { (s : Self) → Key (key s) };
 
-    law enciphers_to_blocks: { (k : List ℕ) (b : ℕ) → Key k → Block b → Block (enciphered k b) };
-
-    law deciphers_to_blocks: { (k : List ℕ) (b : ℕ) → Key k → Block b → Block (deciphered k b) };
-
-    law deciphering_undoes: { (k : List ℕ) (b : ℕ) → Key k → Block b → deciphered k (enciphered k b) ≡ b };
-
-    law enciphering_undoes: { (k : List ℕ) (b : ℕ) → Key k → Block b → enciphered k (deciphered k b) ≡ b };
+    // Under every key either map undoes the other, and both give blocks.
+    law lawful: { Lawful enciphered deciphered };
 
     // Makes a key ready for use. It never refuses.
     fn prepare(bytes: [u8; 16]) -> Self

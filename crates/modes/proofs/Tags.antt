@@ -46,9 +46,9 @@ zeros (suc n) = (lit< tt, zeros n)
 
 padded-bytes : (bytes : List ℕ) → All Byte bytes → length bytes < 8 → Bytes 8 (padded bytes)
 padded-bytes bytes each few = (
-    length-append bytes (0x80 ∷ replicate (7 - length bytes) 0) ∙ omega (arith, length-replicate {A = ℕ} (7 - length bytes) 0),
-    all-append Byte bytes (0x80 ∷ replicate (7 - length bytes) 0) each (lit< tt, zeros (7 - length bytes)),
-  )
+  length-append bytes (0x80 ∷ replicate (7 - length bytes) 0) ∙ omega (arith, length-replicate {A = ℕ} (7 - length bytes) 0),
+  all-append Byte bytes (0x80 ∷ replicate (7 - length bytes) 0) each (lit< tt, zeros (7 - length bytes)),
+)
 
 -- bytes over eight zeros, and the bit 1 behind them, are padded
 pub padded-over-zeros : (bytes copied : List ℕ) (k : ℕ) → copied ≡ bytes → k ≡ length bytes → length bytes < 8 → set (copied ++ postOf 0 k (replicate 8 0)) (length bytes) 0x80 ≡ padded bytes
@@ -93,12 +93,12 @@ module _ (CIPH : ℕ → ℕ) where
   last-tells xs ys hx hy long few e =
       ⊎-elim
       (λ whole.
-        same-number xs ys (whole, hx) (sym long ∙ whole, hy)
-        (xor-cancel (K1 CIPH) (be-number xs) (be-number ys) (sym (whole-last xs whole) ∙ e ∙ whole-last ys (sym long ∙ whole))))
+      same-number xs ys (whole, hx) (sym long ∙ whole, hy)
+      (xor-cancel (K1 CIPH) (be-number xs) (be-number ys) (sym (whole-last xs whole) ∙ e ∙ whole-last ys (sym long ∙ whole))))
       (λ short.
-        let also : length ys ≡ 8 → ⊥ = λ w. short (long ∙ w) in
-        let same = same-number (padded xs) (padded ys) (padded-bytes xs hx (omega arith)) (padded-bytes ys hy (omega arith)) (xor-cancel (K2 CIPH) (be-number (padded xs)) (be-number (padded ys)) (sym (short-last xs short) ∙ e ∙ short-last ys also)) in
-        append-cancel-right xs ys (0x80 ∷ replicate (7 - length xs) 0) (same ∙ ap (λ n. ys ++ 0x80 ∷ replicate (7 - n) 0) (sym long)))
+      let also : length ys ≡ 8 → ⊥ = λ w. short (long ∙ w) in
+      let same = same-number (padded xs) (padded ys) (padded-bytes xs hx (omega arith)) (padded-bytes ys hy (omega arith)) (xor-cancel (K2 CIPH) (be-number (padded xs)) (be-number (padded ys)) (sym (short-last xs short) ∙ e ∙ short-last ys also)) in
+      append-cancel-right xs ys (0x80 ∷ replicate (7 - length xs) 0) (same ∙ ap (λ n. ys ++ 0x80 ∷ replicate (7 - n) 0) (sym long)))
       (cases-eq (length xs) 8)
 
   -- ---- the chain
@@ -129,8 +129,8 @@ module _ (CIPH : ℕ → ℕ) where
   tagged i n chain last tag message upto from so-far lastly made =
       made
       ∙ ap₂ (λ c b. CIPH (bitXor c b))
-        (so-far ∙ ap (λ k. chained CIPH 0 (first-blocks k message)) upto)
-        (lastly ∙ ap (last-block CIPH) (take-rest message (8 * n) ∙ ap (λ k. drop (8 * k) message) from))
+      (so-far ∙ ap (λ k. chained CIPH 0 (first-blocks k message)) upto)
+      (lastly ∙ ap (last-block CIPH) (take-rest message (8 * n) ∙ ap (λ k. drop (8 * k) message) from))
 
   -- ---- split at the header
 
@@ -143,7 +143,7 @@ module _ (CIPH : ℕ → ℕ) where
       let count : before-last message ≡ suc n = omega (arith, length-append (be-bytes 8 header) body, block-bytes header .0) in
       let blocks : first-blocks (before-last message) message ≡ header ∷ first-blocks n body = ap (λ k. first-blocks k message) count ∙ first-blocks-of-bytes header n body h in
       let rest : drop (8 * before-last message) message ≡ drop (8 * n) body =
-          ap (λ k. drop k message) (ap (λ k. 8 * k) count ∙ omega arith) ∙ sym (drop-drop (8 * n) 8 message) ∙ ap (drop (8 * n)) (drop-at (be-bytes 8 header) body 8 (block-bytes header .0)) in
+      ap (λ k. drop k message) (ap (λ k. 8 * k) count ∙ omega arith) ∙ sym (drop-drop (8 * n) 8 message) ∙ ap (drop (8 * n)) (drop-at (be-bytes 8 header) body 8 (block-bytes header .0)) in
       ap₂ (λ bs last. CIPH (bitXor (chained CIPH C bs) (last-block CIPH last))) blocks rest
 
   pub tag-of-header-and-body : (header : ℕ) (body : List ℕ) → Block header → 0 < length body → CMAC CIPH (be-bytes 8 header ++ body) ≡ tag-from CIPH (CIPH header) body
@@ -240,8 +240,8 @@ module _ (CIPH back : ℕ → ℕ) (law : Inverse CIPH back) where
           let bx = xor-lt 64 C x hc (number-block (take 8 xs) ex) in
           let by = xor-lt 64 C y hc (number-block (take 8 ys) ey) in
           let there =
-              tag-from-apart (drop 8 xs) (CIPH (bitXor C x)) (CIPH (bitXor C y)) (all-drop Byte 8 xs hx) (law .there-to-blocks (bitXor C x) bx) (law .there-to-blocks (bitXor C y) by)
-              (same-tags ∙ ap (tag-from CIPH (CIPH (bitXor C y))) (sym rest)) in
+          tag-from-apart (drop 8 xs) (CIPH (bitXor C x)) (CIPH (bitXor C y)) (all-drop Byte 8 xs hx) (law .there-to-blocks (bitXor C x) bx) (law .there-to-blocks (bitXor C y) by)
+          (same-tags ∙ ap (tag-from CIPH (CIPH (bitXor C y))) (sym rest)) in
           rejoined (same-number (take 8 xs) (take 8 ys) ex ey (xor-cancel C x y (apart law (bitXor C x) (bitXor C y) bx by there))) rest
 
       same-first-goes-on : take 8 xs ≡ take 8 ys → tag-from CIPH (CIPH (bitXor C x)) (drop 8 xs) ≡ tag-from CIPH (CIPH (bitXor C x)) (drop 8 ys)
@@ -260,16 +260,16 @@ module _ (CIPH back : ℕ → ℕ) (law : Inverse CIPH back) where
   tells (suc place) xs ys C hx hy long hc before after e =
       ⊎-elim
       (λ many.
-        let front : take 8 xs ≡ take 8 ys = sym (take-take 8 (8 * suc place) xs (omega arith)) ∙ ap (take 8) before ∙ take-take 8 (8 * suc place) ys (omega arith) in
-        let count : 8 * suc place ≡ 8 + 8 * place = omega arith in
-        let on : (zs : List ℕ) → take (8 * place) (drop 8 zs) ≡ drop 8 (take (8 * suc place) zs) = λ zs. sym (drop-take 8 (8 * place) zs) ∙ ap (λ n. drop 8 (take n zs)) (sym count) in
-        let past : 8 * suc place + 8 ≡ 8 + (8 * place + 8) = omega arith in
-        let beyond : (zs : List ℕ) → drop (8 * place + 8) (drop 8 zs) ≡ drop (8 * suc place + 8) zs = λ zs. drop-drop (8 * place + 8) 8 zs ∙ ap (λ n. drop n zs) (sym past) in
-        let rest =
-            tells place (drop 8 xs) (drop 8 ys) (CIPH (bitXor C (be-number (take 8 xs)))) (all-drop Byte 8 xs hx) (all-drop Byte 8 ys hy)
-            (length-drop 8 xs ∙ ap (λ n. n - 8) long ∙ sym (length-drop 8 ys)) (into-chain xs ys hx hy long C hc many e)
-            (on xs ∙ ap (drop 8) before ∙ sym (on ys)) (beyond xs ∙ after ∙ sym (beyond ys)) (same-first-goes-on xs ys hx hy long C hc many e front) in
-        rejoined xs ys hx hy long front rest)
+      let front : take 8 xs ≡ take 8 ys = sym (take-take 8 (8 * suc place) xs (omega arith)) ∙ ap (take 8) before ∙ take-take 8 (8 * suc place) ys (omega arith) in
+      let count : 8 * suc place ≡ 8 + 8 * place = omega arith in
+      let on : (zs : List ℕ) → take (8 * place) (drop 8 zs) ≡ drop 8 (take (8 * suc place) zs) = λ zs. sym (drop-take 8 (8 * place) zs) ∙ ap (λ n. drop 8 (take n zs)) (sym count) in
+      let past : 8 * suc place + 8 ≡ 8 + (8 * place + 8) = omega arith in
+      let beyond : (zs : List ℕ) → drop (8 * place + 8) (drop 8 zs) ≡ drop (8 * suc place + 8) zs = λ zs. drop-drop (8 * place + 8) 8 zs ∙ ap (λ n. drop n zs) (sym past) in
+      let rest =
+      tells place (drop 8 xs) (drop 8 ys) (CIPH (bitXor C (be-number (take 8 xs)))) (all-drop Byte 8 xs hx) (all-drop Byte 8 ys hy)
+      (length-drop 8 xs ∙ ap (λ n. n - 8) long ∙ sym (length-drop 8 ys)) (into-chain xs ys hx hy long C hc many e)
+      (on xs ∙ ap (drop 8) before ∙ sym (on ys)) (beyond xs ∙ after ∙ sym (beyond ys)) (same-first-goes-on xs ys hx hy long C hc many e front) in
+      rejoined xs ys hx hy long front rest)
       (λ few. short-tells xs ys hx hy long C hc few e) (cases-lt 8 (length xs))
 
   -- messages that differ inside just one block have different tags

@@ -44,9 +44,9 @@ module _ (word start : List ℕ) where
   from-block block some read =
       ⊎-elim
       (λ eight.
-        let same : Some block ≡ Some start = read ∙ cond-true (eqb (length start) 8) (Some start) None eight in
-        let row : block ≡ start = cc in
-        ap (λ b. chained-of word (be-number b)) row ∙ sym (cond-true (eqb (length start) 8) (chained-of word (be-number start)) None eight) ∙ some-start some)
+      let same : Some block ≡ Some start = read ∙ cond-true (eqb (length start) 8) (Some start) None eight in
+      let row : block ≡ start = cc in
+      ap (λ b. chained-of word (be-number b)) row ∙ sym (cond-true (eqb (length start) 8) (chained-of word (be-number start)) None eight) ∙ some-start some)
       (λ not-eight. absurd (let no = read ∙ cond-false (eqb (length start) 8) (Some start) None not-eight in let z : _≡_ {A = ℕ} 0 1 = cc in omega arith))
       (cases-bool (eqb (length start) 8))
 

@@ -1,7 +1,6 @@
 use mathlib.Core.Path.{ap, _∙_}
 use native.Mathlib.Omega.{arith}
 use borrow.Author.Needs.{needs}
-use Rattle.cipher.proofs.Inverses.{lawful}
 use Rattle.cipher.proofs.Rows.{of-slice}
 use Rattle.modes.specs.InPlace.{left-by}
 use Rattle.modes.specs.Cbc.{cbc-enciphered, cbc-deciphered}
@@ -11,9 +10,8 @@ use Rattle.modes.proofs.cbc.cbc_encipher.Needs as need
 pub returns : need.returns
 returns g c =
     let m = g .C·Cipher in
-    let laws = g .C·Cipher·met in
     let k = m .key (c .args .cipher .now) in
-    let law = lawful (m .enciphered) (m .deciphered) (laws .«enciphers_to_blocks») (laws .«deciphers_to_blocks») (laws .«deciphering_undoes») (laws .«enciphering_undoes») k (laws .keyed (c .args .cipher .now)) in
+    let law = g .C·Cipher·met .lawful k (g .C·Cipher·met .keyed (c .args .cipher .now)) in
     let start = c .args .start in
     let there = cbc-enciphered (m .enciphered k) start in
     let back = cbc-deciphered (m .deciphered k) start in

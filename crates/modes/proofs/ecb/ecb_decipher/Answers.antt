@@ -1,6 +1,6 @@
 use mathlib.Core.Path.{ap, _∙_}
 use borrow.Author.Needs.{needs}
-use Rattle.cipher.proofs.Inverses.{lawful, turned}
+use Rattle.cipher.proofs.Inverses.{turned}
 use Rattle.cipher.proofs.Rows.{of-slice}
 use Rattle.modes.specs.InPlace.{left-by}
 use Rattle.modes.specs.Ecb.{ecb}
@@ -10,9 +10,8 @@ use Rattle.modes.proofs.ecb.ecb_decipher.Needs as need
 pub returns : need.returns
 returns g c =
     let m = g .C·Cipher in
-    let laws = g .C·Cipher·met in
     let k = m .key (c .args .cipher .now) in
-    let law = lawful (m .enciphered) (m .deciphered) (laws .«enciphers_to_blocks») (laws .«deciphers_to_blocks») (laws .«deciphering_undoes») (laws .«enciphering_undoes») k (laws .keyed (c .args .cipher .now)) in
+    let law = g .C·Cipher·met .lawful k (g .C·Cipher·met .keyed (c .args .cipher .now)) in
     let buffer = c .args .buffer .now in
     let whole = granted-whole buffer (c .in-Continue-whole-blocks .ensures tt) in
     let left = left-whole (ecb (m .deciphered k)) buffer (c .decipher-each .last .blocks) whole (c .decipher-each .ensures) in

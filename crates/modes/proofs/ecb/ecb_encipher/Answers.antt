@@ -1,6 +1,5 @@
 use mathlib.Core.Path.{ap, _∙_}
 use borrow.Author.Needs.{needs}
-use Rattle.cipher.proofs.Inverses.{lawful}
 use Rattle.cipher.proofs.Rows.{of-slice}
 use Rattle.modes.specs.InPlace.{left-by}
 use Rattle.modes.specs.Ecb.{ecb}
@@ -10,9 +9,8 @@ use Rattle.modes.proofs.ecb.ecb_encipher.Needs as need
 pub returns : need.returns
 returns g c =
     let m = g .C·Cipher in
-    let laws = g .C·Cipher·met in
     let k = m .key (c .args .cipher .now) in
-    let law = lawful (m .enciphered) (m .deciphered) (laws .«enciphers_to_blocks») (laws .«deciphers_to_blocks») (laws .«deciphering_undoes») (laws .«enciphering_undoes») k (laws .keyed (c .args .cipher .now)) in
+    let law = g .C·Cipher·met .lawful k (g .C·Cipher·met .keyed (c .args .cipher .now)) in
     let buffer = c .args .buffer .now in
     let whole = granted-whole buffer (c .in-Continue-whole-blocks .ensures tt) in
     let left = left-whole (ecb (m .enciphered k)) buffer (c .encipher-each .last .blocks) whole (c .encipher-each .ensures) in
