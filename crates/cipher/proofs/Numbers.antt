@@ -82,7 +82,11 @@ bytes-of-block xs h = bytes-of-number 8 xs h
 pub number-block : (xs : List ℕ) → Bytes 8 xs → Block (be-number xs)
 number-block xs h = be-number-below 8 xs h
 
--- the same, place by place
+-- two rows of eight that write one number are the same
+pub same-number : (xs ys : List ℕ) → Bytes 8 xs → Bytes 8 ys → be-number xs ≡ be-number ys → xs ≡ ys
+same-number xs ys hx hy e = sym (bytes-of-block xs hx) ∙ ap (be-bytes 8) e ∙ bytes-of-block ys hy
+
+-- a block and its bytes, place by place
 pub block-places : (b : ℕ) → be-bytes 8 b ≡
     b / 72057594037927936 % 256 ∷ b / 281474976710656 % 256 ∷ b / 1099511627776 % 256 ∷ b / 4294967296 % 256
     ∷ b / 16777216 % 256 ∷ b / 65536 % 256 ∷ b / 256 % 256 ∷ b % 256 ∷ []

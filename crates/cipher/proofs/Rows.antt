@@ -1,10 +1,11 @@
 -- Rows of bytes, and ⊕ on them.
 use mathlib.Core.Path.{_≡_, refl, sym, ap, ap₂, _∙_}
 use mathlib.Core.List.{List, [], _∷_, _++_}
-use Prim.Native.Nat.{ℕ, _+_, _<_, _-_}
+use Prim.Native.Nat.{ℕ, zero, suc, _+_, _<_, _-_}
 use native.Mathlib.Omega.{arith}
-use lib.Bits.{bitXor, xor-assoc, xor-comm, xor-self, xor-zero-r, xor-lt}
-use lib.ListN.{length, getD, take, drop}
+use lib.Bits.{bitXor, xor-assoc, xor-comm, xor-self, xor-zero-l, xor-zero-r, xor-lt}
+use lib.Dec.{lit<}
+use lib.ListN.{length, getD, take, drop, replicate}
 use mir.Syntax.{w8}
 use mir.Val.{Val, Fits}
 use mir.Facts.{fits-lt-pow}
@@ -43,6 +44,10 @@ byte-at n xs h i l = all-getD Byte xs i 0 (omega (arith, h .0)) (h .1)
 pub bytes-by-place : (n : ℕ) (xs : List ℕ) → length xs ≡ n → ((i : ℕ) → i < n → getD xs i 0 < 256) → Bytes n xs
 bytes-by-place n xs h each = (h, all-from-getD Byte xs 0 (λ i l. each i (omega arith)))
 
+pub zeros : (n : ℕ) → All Byte (replicate n 0)
+zeros zero = tt
+zeros (suc n) = (lit< tt, zeros n)
+
 -- the first m bytes of a row, and the rest
 pub take-bytes : (m n : ℕ) (xs : List ℕ) → Bytes (m + n) xs → Bytes m (take m xs)
 take-bytes m n xs h = (length-take-le m xs (omega (arith, h .0)), all-take Byte m xs (h .1))
@@ -54,6 +59,16 @@ drop-bytes m n xs h = (omega (arith, length-drop m xs, h .0), all-drop Byte m xs
 
 pub xor-twice : (x k : ℕ) → bitXor (bitXor x k) k ≡ x
 xor-twice x k = xor-assoc x k k ∙ ap (bitXor x) (xor-self k) ∙ xor-zero-r x
+
+xor-again : (x b : ℕ) → bitXor x (bitXor x b) ≡ b
+xor-again x b = sym (xor-assoc x x b) ∙ ap (λ (z : ℕ). bitXor z b) (xor-self x) ∙ xor-zero-l b
+
+-- ⊕ with one number keeps others apart
+pub xor-cancel : (x b c : ℕ) → bitXor x b ≡ bitXor x c → b ≡ c
+xor-cancel x b c e = sym (xor-again x b) ∙ ap (bitXor x) e ∙ xor-again x c
+
+pub xor-cancel-right : (x y b : ℕ) → bitXor x b ≡ bitXor y b → x ≡ y
+xor-cancel-right x y b e = xor-cancel b x y (xor-comm b x ∙ e ∙ xor-comm y b)
 
 pub xor-middle : (a b c d : ℕ) → bitXor (bitXor a b) (bitXor c d) ≡ bitXor (bitXor a c) (bitXor b d)
 xor-middle a b c d =

@@ -1,12 +1,12 @@
 -- Rows of bytes as rows of blocks, and back.
-use mathlib.Core.Path.{_≡_, refl, sym, ap, ap₂, _∙_, subst}
+use mathlib.Core.Path.{_≡_, refl, sym, ap, ap₂, _∙_}
 use mathlib.Core.List.{List, [], _∷_, _++_}
 use Prim.Native.Nat.{ℕ, zero, suc, _+_, _-_, _*_, _/_, _%_, _<_, _≤_}
 use native.Mathlib.Omega.{arith}
 use native.Mathlib.Numerals.{add-one}
 use lib.ListN.{length, take, drop}
 use Rattle.std.proofs.shelf.Elements.{all-append, all-take, all-drop}
-use Rattle.std.proofs.shelf.Lists.{append-assoc, append-nil, length-append, length-drop, length-take-le, take-all, take-at, drop-at, drop-drop, drop-all, take-append-drop}
+use Rattle.std.proofs.shelf.Lists.{append-assoc, append-nil, length-append, length-drop, length-take-le, take-at, drop-at, drop-drop, drop-all, take-append-drop}
 use Rattle.std.specs.shelf.Lists.{All, between}
 use Rattle.cipher.specs.Block.{Byte, Bytes, Block, be-bytes, be-number, first-blocks, as-blocks, as-bytes}
 use Rattle.cipher.proofs.Numbers.{block-bytes, block-of-bytes, bytes-of-block, number-block}

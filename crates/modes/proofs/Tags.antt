@@ -1,15 +1,14 @@
--- Laws of CMAC.
+-- Laws of CMAC: how a tag is made step by step, how it splits at a header, and that one block tells two messages apart.
 use mathlib.Core.Path.{_≡_, refl, sym, ap, ap₂, _∙_, subst}
-use mathlib.Core.Bool.{cond}
 use mathlib.Core.List.{List, [], _∷_, _++_}
 use mathlib.Core.Logic.{⊎-elim}
-use Prim.Native.Nat.{ℕ, zero, suc, _+_, _-_, _*_, _/_, _%_, _^_, _<_, _≤_}
+use Prim.Native.Nat.{ℕ, zero, suc, _+_, _-_, _*_, _%_, _^_, _<_, _≤_}
 use native.Mathlib.Omega.{arith}
-use lib.Bits.{bitXor, xor-assoc, xor-comm, xor-self, xor-zero-l, xor-lt}
+use lib.Bits.{bitXor, xor-zero-l, xor-lt}
 use lib.Dec.{eqb, leb, lit<}
 use lib.ListN.{length, take, drop, replicate, set}
 use Rattle.std.proofs.shelf.Bits.{mod-below}
-use Rattle.std.proofs.shelf.Elements.{all-append, all-take, all-drop}
+use Rattle.std.proofs.shelf.Elements.{all-append, all-drop}
 use Rattle.std.proofs.shelf.Lists.{append-cancel-right, length-append, length-drop, length-replicate, take-all, take-take, take-append-drop, take-rest, drop-take, drop-at, drop-drop, drop-replicate, set-at}
 use Rattle.std.proofs.shelf.Tests.{cond-both, cond-true, cond-false, cases-lt, cases-eq, eq-eqb, ne-eqb}
 use Rattle.std.specs.shelf.Lists.{All, between}
@@ -17,20 +16,10 @@ use borrow.Rule.Slice.PartMut.{postOf}
 use Rattle.cipher.specs.Block.{Byte, Bytes, Block, be-bytes, be-number, first-blocks, DifferInOneBlock}
 use Rattle.cipher.specs.Inverse.{Inverse}
 use Rattle.cipher.proofs.Inverses.{apart}
-use Rattle.cipher.proofs.Numbers.{block-bytes, bytes-of-block, number-block}
+use Rattle.cipher.proofs.Numbers.{block-bytes, bytes-of-block, number-block, same-number}
+use Rattle.cipher.proofs.Rows.{xor-cancel, xor-cancel-right, zeros}
 use Rattle.cipher.proofs.Wholes.{first-blocks-blocks, first-blocks-of-bytes, first-blocks-more, first-eight}
 use Rattle.modes.specs.Cmac.{doubled, before-last, padded, K1, K2, last-block, chained, tag-from, CMAC}
-
--- ---- ⊕ takes nothing away
-
-xor-again : (x b : ℕ) → bitXor x (bitXor x b) ≡ b
-xor-again x b = sym (xor-assoc x x b) ∙ ap (λ y. bitXor y b) (xor-self x) ∙ xor-zero-l b
-
-xor-cancel : (x b c : ℕ) → bitXor x b ≡ bitXor x c → b ≡ c
-xor-cancel x b c e = sym (xor-again x b) ∙ ap (bitXor x) e ∙ xor-again x c
-
-xor-cancel-right : (x y b : ℕ) → bitXor x b ≡ bitXor y b → x ≡ y
-xor-cancel-right x y b e = xor-cancel b x y (xor-comm b x ∙ e ∙ xor-comm y b)
 
 -- ---- the parts are blocks
 
@@ -39,10 +28,6 @@ unfolding doubled
 doubled-block b =
     let shifted : b * 2 % 2 ^ 64 < 2 ^ 64 = mod-below (b * 2) (2 ^ 64) (lit< tt) in
     cond-both (leb (2 ^ 63) b) (bitXor (b * 2 % 2 ^ 64) 0x1B) (b * 2 % 2 ^ 64) (λ x. x < 2 ^ 64) (λ _. xor-lt 64 (b * 2 % 2 ^ 64) 0x1B shifted (lit< tt)) (λ _. shifted)
-
-zeros : (n : ℕ) → All Byte (replicate n 0)
-zeros zero = tt
-zeros (suc n) = (lit< tt, zeros n)
 
 padded-bytes : (bytes : List ℕ) → All Byte bytes → length bytes < 8 → Bytes 8 (padded bytes)
 padded-bytes bytes each few = (
@@ -56,10 +41,6 @@ padded-over-zeros bytes copied k same count few =
     let left : 8 - k ≡ suc (7 - length bytes) = omega arith in
     ap₂ (λ xs ys. set (xs ++ ys) (length bytes) 0x80) same (drop-replicate k 8 0 ∙ ap (λ n. replicate n 0) left)
     ∙ set-at bytes 0 (replicate (7 - length bytes) 0) 0x80 (length bytes) refl
-
--- two rows of eight that write one number are the same
-same-number : (xs ys : List ℕ) → Bytes 8 xs → Bytes 8 ys → be-number xs ≡ be-number ys → xs ≡ ys
-same-number xs ys hx hy e = sym (bytes-of-block xs hx) ∙ ap (be-bytes 8) e ∙ bytes-of-block ys hy
 
 module _ (CIPH : ℕ → ℕ) where
   whole-last : (bytes : List ℕ) → length bytes ≡ 8 → last-block CIPH bytes ≡ bitXor (K1 CIPH) (be-number bytes)
@@ -193,6 +174,10 @@ module _ (CIPH back : ℕ → ℕ) (law : Inverse CIPH back) where
       let bs = first-blocks (before-last message) message in
       let last = last-block CIPH (drop (8 * before-last message) message) in
       law .there-to-blocks (bitXor (chained CIPH C bs) last) (xor-lt 64 (chained CIPH C bs) last (chained-block bs C (blocks-before message each) hc) (last-of message each))
+
+  pub CMAC-block : (message : List ℕ) → All Byte message → Block (CMAC CIPH message)
+  unfolding CMAC
+  CMAC-block message each = tag-block message 0 each (lit< tt)
 
   -- a message of eight bytes or fewer is its last block
   short-tag : (C : ℕ) (message : List ℕ) → length message ≤ 8 → tag-from CIPH C message ≡ CIPH (bitXor C (last-block CIPH message))

@@ -1,12 +1,10 @@
 -- Deciphering undoes enciphering, and the other way round: ECB, and CBC from every starting block.
 use mathlib.Core.Path.{_≡_, refl, sym, ap, ap₂, _∙_}
-use mathlib.Core.Bool.{true}
 use mathlib.Core.List.{List, [], _∷_}
 use mathlib.Core.Logic.{⊎-elim}
-use Prim.Native.Nat.{ℕ, suc, _*_, _/_, _%_}
+use Prim.Native.Nat.{ℕ, suc, _%_}
 use native.Mathlib.Omega.{arith}
 use lib.Bits.{bitXor, xor-lt}
-use lib.Dec.{eqb}
 use lib.ListN.{length}
 use Rattle.std.proofs.shelf.Tests.{cond-true, cond-false, cases-bool, eq-eqb, eqb-true}
 use Rattle.std.specs.shelf.Lists.{All}
@@ -15,7 +13,7 @@ use Rattle.refusal.specs.declared.cause.Refusal.the-variants.{NotWholeBlocks}
 use Rattle.cipher.specs.Block.{Byte, Block, as-blocks, as-bytes, is-whole}
 use Rattle.cipher.specs.Inverse.{Inverse}
 use Rattle.cipher.proofs.Rows.{xor-twice}
-use Rattle.cipher.proofs.Wholes.{length-as-blocks, length-as-bytes, as-blocks-blocks, as-blocks-as-bytes, as-bytes-as-blocks}
+use Rattle.cipher.proofs.Wholes.{length-as-bytes, as-blocks-blocks, as-blocks-as-bytes, as-bytes-as-blocks}
 use Rattle.modes.specs.InPlace.{answered, left-by}
 use Rattle.modes.specs.Ecb.{ecb}
 use Rattle.modes.specs.Cbc.{cbc-enciphered, cbc-deciphered}

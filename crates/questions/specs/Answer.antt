@@ -15,7 +15,6 @@ use lib.Chars.{codes}
 use lib.Dec.{eqb}
 use lib.ListN.{getD, length}
 use Rattle.std.specs.Of.Vec.{vec-items}
-use Rattle.std.specs.Options.{mapped}
 use Rattle.std.specs.shelf.Text.{sameBytes}
 use Rattle.std.specs.declared.option.Option.{Option}
 use Rattle.std.specs.declared.option.Option.the-variants.{Some, None}

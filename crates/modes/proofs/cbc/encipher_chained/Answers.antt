@@ -1,6 +1,4 @@
 use native.Mathlib.Omega.{arith}
-use mathlib.Core.Path.{refl}
-use lib.Bits.{bitXor}
 use Rattle.modes.specs.Cbc.{cbc-enciphered}
 use Rattle.modes.proofs.Walk.{walk-none, walk-more, walk-all, enciphering-goes-on, enciphering-ends}
 use Rattle.modes.proofs.cbc.encipher_chained.Needs as need

@@ -1,4 +1,4 @@
-use mathlib.Core.Path.{sym, ap, _∙_}
+use mathlib.Core.Path.{ap, _∙_}
 use borrow.Author.Tests.{true-eqb, false-eqb}
 use Rattle.questions.specs.Answer.{chained-of}
 use Rattle.questions.proofs.Asking.{no-start, another-start, from-block}
