@@ -15,8 +15,8 @@ use refusal::Refusal;
 // Adds each block of the buffer to the enciphered block before it, the first to the starting block, and enciphers it.
 pub fn cbc_encipher<C: Cipher>(cipher: &C, start: u64, buffer: &mut [u8]) -> Result<(), Refusal>
     ensures result { λ r. ⌜ r ≡ answered (now (buffer .entry)) ⌝ }
-    ensures written { λ _. ⌜ now (buffer .exit) ≡ left-by (cbc-enciphered (C·Cipher .enciphered (C·Cipher .key (now (cipher .entry)))) start) (now (buffer .entry)) ⌝ }
-    ensures undone { λ _. ⌜ left-by (cbc-deciphered (C·Cipher .deciphered (C·Cipher .key (now (cipher .entry)))) start) (now (buffer .exit)) ≡ now (buffer .entry) ⌝ }
+    ensures written { λ _. ⌜ now (buffer .exit) ≡ left-by (cbc-enciphered (enciphered (key (now (cipher .entry)))) start) (now (buffer .entry)) ⌝ }
+    ensures undone { λ _. ⌜ left-by (cbc-deciphered (deciphered (key (now (cipher .entry)))) start) (now (buffer .exit)) ≡ now (buffer .entry) ⌝ }
 {
     whole_blocks(buffer)?;
     encipher_chained(cipher, start, buffer);
@@ -26,17 +26,18 @@ pub fn cbc_encipher<C: Cipher>(cipher: &C, start: u64, buffer: &mut [u8]) -> Res
 // Deciphers each block of the buffer and adds the enciphered block before it, to the first the starting block.
 pub fn cbc_decipher<C: Cipher>(cipher: &C, start: u64, buffer: &mut [u8]) -> Result<(), Refusal>
     ensures result { λ r. ⌜ r ≡ answered (now (buffer .entry)) ⌝ }
-    ensures written { λ _. ⌜ now (buffer .exit) ≡ left-by (cbc-deciphered (C·Cipher .deciphered (C·Cipher .key (now (cipher .entry)))) start) (now (buffer .entry)) ⌝ }
-    ensures undone { λ _. ⌜ left-by (cbc-enciphered (C·Cipher .enciphered (C·Cipher .key (now (cipher .entry)))) start) (now (buffer .exit)) ≡ now (buffer .entry) ⌝ }
+    ensures written { λ _. ⌜ now (buffer .exit) ≡ left-by (cbc-deciphered (deciphered (key (now (cipher .entry)))) start) (now (buffer .entry)) ⌝ }
+    ensures undone { λ _. ⌜ left-by (cbc-enciphered (enciphered (key (now (cipher .entry)))) start) (now (buffer .exit)) ≡ now (buffer .entry) ⌝ }
 {
     whole_blocks(buffer)?;
     decipher_chained(cipher, start, buffer);
     Ok(())
 }
 
+// CBC enciphering of whole blocks.
 fn encipher_chained<C: Cipher>(cipher: &C, start: u64, blocks: &mut [u8])
     requires { ⌜ length (now blocks) % 8 ≡ 0 ⌝ }
-    ensures { λ _. ⌜ now (blocks .exit) ≡ as-bytes (cbc-enciphered (C·Cipher .enciphered (C·Cipher .key (now (cipher .entry)))) start (as-blocks (now (blocks .entry)))) ⌝ }
+    ensures { λ _. ⌜ now (blocks .exit) ≡ as-bytes (cbc-enciphered (enciphered (key (now (cipher .entry)))) start (as-blocks (now (blocks .entry)))) ⌝ }
 {
     let count = blocks.len() / 8;
     let mut before = start;
@@ -48,9 +49,10 @@ fn encipher_chained<C: Cipher>(cipher: &C, start: u64, blocks: &mut [u8])
     }
 }
 
+// CBC deciphering of whole blocks. What is added next is the block as it came.
 fn decipher_chained<C: Cipher>(cipher: &C, start: u64, blocks: &mut [u8])
     requires { ⌜ length (now blocks) % 8 ≡ 0 ⌝ }
-    ensures { λ _. ⌜ now (blocks .exit) ≡ as-bytes (cbc-deciphered (C·Cipher .deciphered (C·Cipher .key (now (cipher .entry)))) start (as-blocks (now (blocks .entry)))) ⌝ }
+    ensures { λ _. ⌜ now (blocks .exit) ≡ as-bytes (cbc-deciphered (deciphered (key (now (cipher .entry)))) start (as-blocks (now (blocks .entry)))) ⌝ }
 {
     let count = blocks.len() / 8;
     let mut before = start;

@@ -15,8 +15,8 @@ use refusal::Refusal;
 // Enciphers each block of the buffer.
 pub fn ecb_encipher<C: Cipher>(cipher: &C, buffer: &mut [u8]) -> Result<(), Refusal>
     ensures result { λ r. ⌜ r ≡ answered (now (buffer .entry)) ⌝ }
-    ensures written { λ _. ⌜ now (buffer .exit) ≡ left-by (ecb (C·Cipher .enciphered (C·Cipher .key (now (cipher .entry))))) (now (buffer .entry)) ⌝ }
-    ensures undone { λ _. ⌜ left-by (ecb (C·Cipher .deciphered (C·Cipher .key (now (cipher .entry))))) (now (buffer .exit)) ≡ now (buffer .entry) ⌝ }
+    ensures written { λ _. ⌜ now (buffer .exit) ≡ left-by (ecb (enciphered (key (now (cipher .entry))))) (now (buffer .entry)) ⌝ }
+    ensures undone { λ _. ⌜ left-by (ecb (deciphered (key (now (cipher .entry))))) (now (buffer .exit)) ≡ now (buffer .entry) ⌝ }
 {
     whole_blocks(buffer)?;
     encipher_each(cipher, buffer);
@@ -26,17 +26,18 @@ pub fn ecb_encipher<C: Cipher>(cipher: &C, buffer: &mut [u8]) -> Result<(), Refu
 // Deciphers each block of the buffer.
 pub fn ecb_decipher<C: Cipher>(cipher: &C, buffer: &mut [u8]) -> Result<(), Refusal>
     ensures result { λ r. ⌜ r ≡ answered (now (buffer .entry)) ⌝ }
-    ensures written { λ _. ⌜ now (buffer .exit) ≡ left-by (ecb (C·Cipher .deciphered (C·Cipher .key (now (cipher .entry))))) (now (buffer .entry)) ⌝ }
-    ensures undone { λ _. ⌜ left-by (ecb (C·Cipher .enciphered (C·Cipher .key (now (cipher .entry))))) (now (buffer .exit)) ≡ now (buffer .entry) ⌝ }
+    ensures written { λ _. ⌜ now (buffer .exit) ≡ left-by (ecb (deciphered (key (now (cipher .entry))))) (now (buffer .entry)) ⌝ }
+    ensures undone { λ _. ⌜ left-by (ecb (enciphered (key (now (cipher .entry))))) (now (buffer .exit)) ≡ now (buffer .entry) ⌝ }
 {
     whole_blocks(buffer)?;
     decipher_each(cipher, buffer);
     Ok(())
 }
 
+// ECB enciphering of whole blocks.
 fn encipher_each<C: Cipher>(cipher: &C, blocks: &mut [u8])
     requires { ⌜ length (now blocks) % 8 ≡ 0 ⌝ }
-    ensures { λ _. ⌜ now (blocks .exit) ≡ as-bytes (ecb (C·Cipher .enciphered (C·Cipher .key (now (cipher .entry)))) (as-blocks (now (blocks .entry)))) ⌝ }
+    ensures { λ _. ⌜ now (blocks .exit) ≡ as-bytes (ecb (enciphered (key (now (cipher .entry)))) (as-blocks (now (blocks .entry)))) ⌝ }
 {
     let count = blocks.len() / 8;
     for i in 0..count {
@@ -45,9 +46,10 @@ fn encipher_each<C: Cipher>(cipher: &C, blocks: &mut [u8])
     }
 }
 
+// ECB deciphering of whole blocks.
 fn decipher_each<C: Cipher>(cipher: &C, blocks: &mut [u8])
     requires { ⌜ length (now blocks) % 8 ≡ 0 ⌝ }
-    ensures { λ _. ⌜ now (blocks .exit) ≡ as-bytes (ecb (C·Cipher .deciphered (C·Cipher .key (now (cipher .entry)))) (as-blocks (now (blocks .entry)))) ⌝ }
+    ensures { λ _. ⌜ now (blocks .exit) ≡ as-bytes (ecb (deciphered (key (now (cipher .entry)))) (as-blocks (now (blocks .entry)))) ⌝ }
 {
     let count = blocks.len() / 8;
     for i in 0..count {

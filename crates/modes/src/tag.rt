@@ -16,9 +16,9 @@ use cipher::block_of;
 // - one_block_tells: a message that differs from this one inside just one block has another tag;
 // - from_header: the tag of a header block and a body is that of the body, chained from the enciphered header.
 pub fn cmac<C: Cipher>(cipher: &C, message: &[u8]) -> u64
-    ensures value { λ r. ⌜ r ≡ CMAC (C·Cipher .enciphered (C·Cipher .key (now (cipher .entry)))) (now (message .entry)) ⌝ }
-    ensures one_block_tells { λ r. ⌜ ((other : List ℕ) → All Byte other → DifferInOneBlock (now (message .entry)) other → r ≡ CMAC (C·Cipher .enciphered (C·Cipher .key (now (cipher .entry)))) other → ⊥) ⌝ }
-    ensures from_header { λ r. ⌜ ((header : ℕ) (body : List ℕ) → Block header → 0 < length body → now (message .entry) ≡ be-bytes 8 header ++ body → r ≡ tag-from (C·Cipher .enciphered (C·Cipher .key (now (cipher .entry)))) (C·Cipher .enciphered (C·Cipher .key (now (cipher .entry))) header) body) ⌝ }
+    ensures value { λ r. ⌜ r ≡ CMAC (enciphered (key (now (cipher .entry)))) (now (message .entry)) ⌝ }
+    ensures one_block_tells { λ r. ⌜ ((other : List ℕ) → All Byte other → DifferInOneBlock (now (message .entry)) other → r ≡ CMAC (enciphered (key (now (cipher .entry)))) other → ⊥) ⌝ }
+    ensures from_header { λ r. ⌜ ((header : ℕ) (body : List ℕ) → Block header → 0 < length body → now (message .entry) ≡ be-bytes 8 header ++ body → r ≡ tag-from (enciphered (key (now (cipher .entry)))) (enciphered (key (now (cipher .entry))) header) body) ⌝ }
 {
     let before = message.len().saturating_sub(1) / 8;
     let mut chain = 0u64;
@@ -33,7 +33,7 @@ pub fn cmac<C: Cipher>(cipher: &C, message: &[u8]) -> u64
 // fewer bytes padded under the second.
 fn last_block<C: Cipher>(cipher: &C, bytes: &[u8]) -> u64
     requires { ⌜ length (now bytes) ≤ 8 ⌝ }
-    ensures { λ r. ⌜ r ≡ last-block (C·Cipher .enciphered (C·Cipher .key (now (cipher .entry)))) (now (bytes .entry)) ⌝ }
+    ensures { λ r. ⌜ r ≡ last-block (enciphered (key (now (cipher .entry)))) (now (bytes .entry)) ⌝ }
 {
     let k1 = double(cipher.encipher(0));
     let k2 = double(k1);
@@ -43,6 +43,11 @@ fn last_block<C: Cipher>(cipher: &C, bytes: &[u8]) -> u64
         k2 ^ padded_block(bytes)
     }
 }
+
+const TOP_BIT: u64 = 0x8000_0000_0000_0000;
+
+// What a doubled block is reduced by where a bit left it: the standard's R for blocks of 64 bits.
+const REDUCTION: u64 = 0x1B;
 
 // Twice a block: shifted left by one, and 0x1B added where the top bit was set.
 fn double(block: u64) -> u64
@@ -55,10 +60,7 @@ fn double(block: u64) -> u64
     }
 }
 
-const TOP_BIT: u64 = 0x8000_0000_0000_0000;
-
-const REDUCTION: u64 = 0x1B;
-
+// The byte behind the last of a padded block: the bit 1 and seven zeros.
 const PADDING: u8 = 0x80;
 
 // Fewer than eight bytes as a block: behind them the bit 1, and then zeros.

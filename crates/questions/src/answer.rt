@@ -140,7 +140,7 @@ pub fn read_question(heap: Global, words: &Words<'_>) -> Result<Option<Question>
 // A mode over a buffer, by any cipher.
 fn work_in_place<C: Cipher>(cipher: &C, mode: Mode, buffer: &mut [u8]) -> Result<(), Refusal>
     ensures result { λ r. ⌜ r ≡ answered (now (buffer .entry)) ⌝ }
-    ensures written { λ _. ⌜ now (buffer .exit) ≡ left-by (mode-of (C·Cipher .enciphered (C·Cipher .key (now (cipher .entry)))) (C·Cipher .deciphered (C·Cipher .key (now (cipher .entry)))) mode) (now (buffer .entry)) ⌝ }
+    ensures written { λ _. ⌜ now (buffer .exit) ≡ left-by (mode-of (enciphered (key (now (cipher .entry)))) (deciphered (key (now (cipher .entry)))) mode) (now (buffer .entry)) ⌝ }
 {
     match mode {
         Mode::EcbEncipher => ecb_encipher(cipher, buffer),
@@ -152,7 +152,7 @@ fn work_in_place<C: Cipher>(cipher: &C, mode: Mode, buffer: &mut [u8]) -> Result
 
 // What is replied to a question, by any cipher.
 fn answer_by<C: Cipher + Drop>(heap: Global, question: Question) -> Result<Reply, AllocError>
-    ensures { λ r. ⌜ made r (λ reply. said reply ≡ said-by (C·Cipher .enciphered (question .key)) (C·Cipher .deciphered (question .key)) (question .operation) (vec-items (question .text))) ⌝ }
+    ensures { λ r. ⌜ made r (λ reply. said reply ≡ said-by (enciphered (question .key)) (deciphered (question .key)) (question .operation) (vec-items (question .text))) ⌝ }
 {
     let cipher = C::prepare(question.key);
     let mut text = question.text;
