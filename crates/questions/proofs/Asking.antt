@@ -8,6 +8,10 @@ use native.Mathlib.Omega.{arith}
 use lib.Dec.{eqb}
 use lib.ListN.{length}
 use Rattle.std.proofs.shelf.Tests.{cond-true, cond-false, cases-bool, eq-eqb, ne-eqb}
+use Rattle.std.specs.Of.Vec.{vec-items}
+use Rattle.std.specs.Options.{mapped}
+use Rattle.std.specs.declared.alloc.Global.{Global}
+use Rattle.std.specs.declared.vec.Vec.{Vec}
 use Rattle.std.specs.declared.option.Option.{Option}
 use Rattle.std.specs.declared.option.Option.the-variants.{Some, None}
 use Rattle.std.specs.declared.result.Result.the-variants.{Ok}
@@ -50,9 +54,11 @@ module _ (word start : List ℕ) where
       (λ not-eight. absurd (let no = read ∙ cond-false (eqb (length start) 8) (Some start) None not-eight in let z : _≡_ {A = ℕ} 0 1 = cc in omega arith))
       (cases-bool (eqb (length start) 8))
 
--- the same, where the second word writes the starting block's bytes
-pub operation-read : (word slice start : List ℕ) (written : Option (List ℕ)) (o : Option Operation) → o ≡ operation-of word slice → slice ≡ start → Some start ≡ written → o ≡ operation-in word written
-operation-read word slice start written o named same read = named ∙ ap (operation-of word) same ∙ ap (operation-in word) read
+-- the same, where the starting block's bytes were read from a word into a Vec, and lent as a slice
+pub operation-read : (word slice : List ℕ) (read : Option (Vec ℕ Global)) (start : Vec ℕ Global) (written : Option (List ℕ)) (o : Option Operation)
+    → o ≡ operation-of word slice → slice ≡ vec-items start → read ≡ Some start → mapped vec-items read ≡ written → o ≡ operation-in word written
+operation-read word slice read start written o named same is reads =
+    named ∙ ap (operation-of word) same ∙ ap (λ r. operation-in word (mapped vec-items r)) (sym is) ∙ ap (operation-in word) reads
 
 -- ---- the question
 

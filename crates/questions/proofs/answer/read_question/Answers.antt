@@ -17,24 +17,24 @@ returns-in-rest-2 c = asked-same (c .in-Some .ensures tt)
 pub returns-in-rest-operation-named : need.returns-in-rest-operation-named
 unfolding question-of
 returns-in-rest-operation-named c = asked-same (c .in-Some .ensures tt)
-    (operation-read (c .args .words .now .operation .now) (c .as-slice .result .now) (vec-items (c .in-Some-2 .start)) _ _ (c .in-rest-operation-named .ensures tt) (c .as-slice .ensures .value) (ap (mapped vec-items) (sym (c .in-Some-2 .is)) ∙ c .in-Continue-start .ensures tt)) refl refl
+    (operation-read _ _ _ (c .in-Some-2 .start) _ _ (c .in-rest-operation-named .ensures tt) (c .as-slice .ensures .value) (c .in-Some-2 .is) (c .in-Continue-start .ensures tt)) refl refl
 
 pub returns-in-rest-3 : need.returns-in-rest-3
 unfolding question-of
 returns-in-rest-3 c = asked-same (c .in-Some .ensures tt)
-    (operation-read (c .args .words .now .operation .now) (c .as-slice .result .now) (vec-items (c .in-Some-2 .start)) _ _ (c .in-Some-operation-named .ensures tt) (c .as-slice .ensures .value) (ap (mapped vec-items) (sym (c .in-Some-2 .is)) ∙ c .in-Continue-start .ensures tt))
+    (operation-read _ _ _ (c .in-Some-2 .start) _ _ (c .in-Some-operation-named .ensures tt) (c .as-slice .ensures .value) (c .in-Some-2 .is) (c .in-Continue-start .ensures tt))
     (sym (c .in-rest-3 .is) ∙ c .in-Continue-key .ensures tt) refl
 
 pub returns-in-rest-4 : need.returns-in-rest-4
 unfolding question-of
 returns-in-rest-4 c = asked-same (c .in-Some .ensures tt)
-    (operation-read (c .args .words .now .operation .now) (c .as-slice .result .now) (vec-items (c .in-Some-2 .start)) _ _ (c .in-Some-operation-named .ensures tt) (c .as-slice .ensures .value) (ap (mapped vec-items) (sym (c .in-Some-2 .is)) ∙ c .in-Continue-start .ensures tt))
+    (operation-read _ _ _ (c .in-Some-2 .start) _ _ (c .in-Some-operation-named .ensures tt) (c .as-slice .ensures .value) (c .in-Some-2 .is) (c .in-Continue-start .ensures tt))
     (sym (c .in-Some-3 .is) ∙ c .in-Continue-key .ensures tt)
     (ap (mapped vec-items) (sym (c .in-rest-4 .is)) ∙ c .in-Continue-text .ensures tt)
 
 pub returns : need.returns
 unfolding question-of
 returns c = asked-same (c .in-Some .ensures tt)
-    (operation-read (c .args .words .now .operation .now) (c .as-slice .result .now) (vec-items (c .in-Some-2 .start)) _ _ (c .in-Some-operation-named .ensures tt) (c .as-slice .ensures .value) (ap (mapped vec-items) (sym (c .in-Some-2 .is)) ∙ c .in-Continue-start .ensures tt))
+    (operation-read _ _ _ (c .in-Some-2 .start) _ _ (c .in-Some-operation-named .ensures tt) (c .as-slice .ensures .value) (c .in-Some-2 .is) (c .in-Continue-start .ensures tt))
     (sym (c .in-Some-3 .is) ∙ c .in-Continue-key .ensures tt)
     (ap (mapped vec-items) (sym (c .in-Some-4 .is)) ∙ c .in-Continue-text .ensures tt)
