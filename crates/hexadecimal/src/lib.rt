@@ -1,6 +1,7 @@
 // Bytes as hexadecimal digits: reading them from text and writing them as text.
 //
 // What is written is read back. Digits of either case are read, lower case is written.
+#![tactic(auto)]
 
 mod digits;
 

@@ -1,4 +1,5 @@
 // Khazad by field arithmetic: the box S worked out from its mini-boxes, θ by products in the field.
+#![tactic(auto)]
 
 mod engine;
 mod field;

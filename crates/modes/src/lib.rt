@@ -5,6 +5,7 @@
 // A buffer that is not whole blocks is refused and left as it was; a buffer of no bytes is whole blocks.
 // Nothing here says that a mode hides or vouches for anything: ECB shows which blocks are equal, and a tag is worth what
 // its key and its cipher are worth.
+#![tactic(auto)]
 
 mod cbc;
 mod ecb;

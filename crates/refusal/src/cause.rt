@@ -1,10 +1,9 @@
 // Why a call says no.
 
-ghost use Rattle.std.specs.Prelude.{◌≡◌, Decides};
+ghost use Rattle.std.specs.Prelude.{◌≡◌, ◌==◌, Decides};
 ghost use Rattle.refusal.specs.Numbers.{number_of};
 ghost use Rattle.std.specs.Cmp.Rules.{comparing};
 ghost use Rattle.std.proofs.Common.{rules};
-ghost use Rattle.std.specs.Cmp as Keys;
 
 #[derive(Clone, Copy, Debug)]
 pub enum Refusal {
@@ -72,11 +71,14 @@ impl Refusal {
 
 // Two refusals are equal where they are the same cause: no two causes have one number.
 impl PartialEq for Refusal {
-    ghost equals = { λ x y r. Decides r (x ≡ y) };
+    ghost eq = { λ x y. number_of x == number_of y };
 
-    ghost laws = { Keys.partial_equiv_from_equiv (Prim.search (comparing, rules)) };
+    ghost laws = { Prim.search (comparing, rules) };
 
-    fn eq(&self, other: &Refusal) -> bool {
+    fn eq(&self, other: &Refusal) -> bool
+        ensures value { result ≡ (number_of self.now == number_of other.now) }
+        ensures same_cause { Decides result (self.now ≡ other.now) }
+    {
         self.number() == other.number()
     }
 }

@@ -3,6 +3,7 @@
 // A call that refuses answers one of these and changes nothing. The list is closed: where a call has several causes to
 // refuse, it says which one counts first. Want of memory is no refusal; the few calls that reserve memory have an error
 // of their own for it.
+#![tactic(auto)]
 
 mod cause;
 

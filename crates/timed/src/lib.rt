@@ -2,6 +2,7 @@
 //
 // A key crosses as its two halves, each as a block. The call prepares it, works on the text in place and says whether it
 // did; a text that is not whole blocks is left as it was.
+#![tactic(auto)]
 
 ghost use Rattle.std.specs.Prelude.{◌≡◌, ◌++◌};
 ghost use Rattle.cipher.specs.Block.{be_bytes, is_whole};

@@ -1,4 +1,5 @@
 // Known answers: reads questions from standard input, a line each, and prints the reply to each and then the tally.
+#![tactic(auto)]
 
 use questions::answer::answer;
 use questions::reply::Tally;

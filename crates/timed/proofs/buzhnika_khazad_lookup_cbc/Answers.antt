@@ -9,5 +9,5 @@ pub returns : goal.returns
 returns c =
     record {
       result = search (rules, granted_where_whole);
-      written = c.cbc-encipher.ensures.written ∙ ap (λ k. left_by (cbc_enciphered (enciphered k) c.args.start) c.args.text.now) (c.prepare-cipher.ensures ∙ c.key-of.ensures);
+      written = c.cbc_encipher.ensures.written ∙ ap (λ k. left_by (cbc_enciphered (enciphered k) c.args.start) c.args.text.now) (c.prepare-cipher.ensures ∙ c.key_of.ensures);
     }

@@ -13,6 +13,6 @@ returns c =
     let eight = sym (block_bytes c.args.first).0 in
     let eight-more = sym (block_bytes c.args.second).0 in
     let sixteen : 16 ≡ length (first ++ second) = omega (arith, length-append first second) in
-    c.put-block-2.ensures ∙ ap (λ d. paste d 8 second 8) c.put-block.ensures
+    c.put_block-2.ensures ∙ ap (λ d. paste d 8 second 8) c.put_block.ensures
     ∙ paste-paste (replicate 16 0) 0 first second 8 8 eight eight-more (omega arith)
     ∙ paste_all (replicate 16 0) 0 (first ++ second) 16 sixteen ∙ append-nil (first ++ second)

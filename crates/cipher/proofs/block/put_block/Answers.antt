@@ -6,5 +6,5 @@ use Rattle.cipher.proofs.block.put_block.Goals as goal
 
 pub returns : goal.returns
 returns c =
-    put_mid-paste c.args.at _ c.args.bytes.now c.copy-from-slice.new.self (be_bytes 8 c.args.block) 8
-    (c.copy-from-slice.ensures.after ∙ c.bytes-of.ensures) (omega arith) (sym (block_bytes c.args.block).0)
+    put_mid-paste c.args.at _ c.args.bytes.now c.copy_from_slice.new.self (be_bytes 8 c.args.block) 8
+    (c.copy_from_slice.ensures.after ∙ c.bytes_of.ensures) (omega arith) (sym (block_bytes c.args.block).0)

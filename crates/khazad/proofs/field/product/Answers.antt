@@ -18,7 +18,7 @@ loop-turn-preserved c =
       | then-bits-eq1 w ↦ w.sum-is ∙ share_standing bits power sum w.if-bits-eq1.true
       | else-bits-eq1 w ↦ w.sum-is ∙ share_clear bits power sum w.if-bits-eq1.false
     ] in (
-      c.double-power.type-inv,
+      c.double-power.type_inv,
       ap (λ p. bit_xor c.if-bits-eq1.sum (times (8 - (c.loop-turn.-turn + 1)) (bits / 2) p)) c.double-power.ensures
           ∙ one_bit_more c.loop-turn.-turn bits power sum c.if-bits-eq1.sum (omega arith) share
           ∙ c.loop-turn.invariant.1,

@@ -5,5 +5,5 @@ use Rattle.khazad.proofs.keys.halves.Goals as goal
 
 pub returns : goal.returns
 returns c =
-    let h = of_array _ _ c.well-formed.0 in
-    record { first = search rules; second = c.copy-from-slice-2.ensures.after ∙ between_to_end c.args.key 8 16 (omega (arith, h.0)) }
+    let h = of_array _ _ c.well_formed.0 in
+    record { first = search rules; second = c.copy_from_slice-2.ensures.after ∙ between_to_end c.args.key 8 16 (omega (arith, h.0)) }

@@ -10,7 +10,7 @@ use Rattle.khazad.proofs.keys.round_keys.Goals as goal
 
 pub loop-r-init : goal.loop-r-init
 loop-r-init c =
-    let h = take-bytes 8 8 c.args.key (of_array _ _ c.well-formed.0) in
+    let h = take-bytes 8 8 c.args.key (of_array _ _ c.well_formed.0) in
     let first : length c.halves.result.0 ≡ 8 = ap length c.halves.ensures.first ∙ h.0 in
     (refl, K-minus_two c.halves.result.0 c.halves.result.1 first, K-minus_one c.halves.result.0 c.halves.result.1 first, λ k l. absurd (omega arith))
 

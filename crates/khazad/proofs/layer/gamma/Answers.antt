@@ -7,5 +7,5 @@ use Rattle.khazad.proofs.layer.gamma.Goals as goal
 pub returns : goal.returns
 returns c =
     let a = c.args.a in
-    let h = of_array _ _ c.well-formed.0 in
+    let h = of_array _ _ c.well_formed.0 in
     same_places 8 c.loop-i.out (γ a) c.loop-i.invariant.0 (γ-bytes 8 a h).0 (λ k l. c.loop-i.invariant.1 k (omega arith) ∙ sym (γ-at 8 a h.0 k l))

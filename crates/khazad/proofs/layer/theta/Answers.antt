@@ -7,4 +7,4 @@ use Rattle.khazad.proofs.layer.theta.Goals as goal
 pub returns : goal.returns
 returns c =
     let a = c.args.a in
-    same_places 8 c.loop-j.out (θ a) c.loop-j.invariant.0 (θ-bytes a (of_array _ _ c.well-formed.0)).0 (λ k l. c.loop-j.invariant.1 k (omega arith))
+    same_places 8 c.loop-j.out (θ a) c.loop-j.invariant.0 (θ-bytes a (of_array _ _ c.well_formed.0)).0 (λ k l. c.loop-j.invariant.1 k (omega arith))

@@ -13,23 +13,23 @@ use Rattle.khazad_lookup.proofs.keys.round_keys.Goals as goal
 
 pub loop-r-init : goal.loop-r-init
 loop-r-init c =
-    let first = be_bytes 8 c.block-at-before.result in
-    let second = be_bytes 8 c.block-at-last.result in
-    let eight = (block_bytes c.block-at-before.result).0 in
-    (refl, (c.block-at-before.type-inv, c.block-at-last.type-inv), K-minus_two first second eight, K-minus_one first second eight, λ k l. absurd (omega arith))
+    let first = be_bytes 8 c.block_at-before.result in
+    let second = be_bytes 8 c.block_at-last.result in
+    let eight = (block_bytes c.block_at-before.result).0 in
+    (refl, (c.block_at-before.type_inv, c.block_at-last.type_inv), K-minus_two first second eight, K-minus_one first second eight, λ k l. absurd (omega arith))
 
 pub loop-r-preserved : goal.loop-r-preserved
 loop-r-preserved c =
-    let key = be_bytes 8 c.block-at-before.result ++ be_bytes 8 c.block-at-last.result in
+    let key = be_bytes 8 c.block_at-before.result ++ be_bytes 8 c.block_at-last.result in
     let r = c.loop-r.r in
     let keys = c.loop-r.keys in
     let inv = c.loop-r.invariant in
-    let mixed = bit_xor c.constant.result c.theta-gamma.result in
+    let mixed = bit_xor c.constant.result c.theta_gamma.result in
     let next = bit_xor mixed c.loop-r.before in
     let within : r < length keys = omega (arith, inv.0) in
-    let block : Block next = xor_lt 64 mixed c.loop-r.before (xor_lt 64 c.constant.result c.theta-gamma.result c.constant.type-inv c.theta-gamma.type-inv) inv.1.0 in
+    let block : Block next = xor_lt 64 mixed c.loop-r.before (xor_lt 64 c.constant.result c.theta_gamma.result c.constant.type_inv c.theta_gamma.type_inv) inv.1.0 in
     let bytes : be_bytes 8 next ≡ K key r =
-    next_key key r c.loop-r.before c.loop-r.last c.constant.result c.theta-gamma.result (omega arith) inv.2 inv.3 c.constant.ensures c.theta-gamma.ensures in (
+    next_key key r c.loop-r.before c.loop-r.last c.constant.result c.theta_gamma.result (omega arith) inv.2 inv.3 c.constant.ensures c.theta_gamma.ensures in (
       length-set keys r next ∙ inv.0,
       (inv.1.1, block),
       inv.3 ∙ ap (K_from_minus_two key) (sym (add-one r)),
@@ -39,5 +39,5 @@ loop-r-preserved c =
 
 pub returns : goal.returns
 returns c =
-    let key = halves_of_key c.args.key c.block-at-before.result c.block-at-last.result (of_array _ _ c.well-formed.0) c.block-at-before.ensures c.block-at-last.ensures in
+    let key = halves_of_key c.args.key c.block_at-before.result c.block_at-last.result (of_array _ _ c.well_formed.0) c.block_at-before.ensures c.block_at-last.ensures in
     fill_by_all (λ n. be_number (K c.args.key n)) c.loop-r.keys 9 0 c.loop-r.invariant.0 (λ k l. c.loop-r.invariant.4 k (omega arith) ∙ ap (λ q. be_number (K q k)) key)

@@ -3,4 +3,4 @@ use Rattle.khazad_lookup.proofs.Rule.{each_entry}
 use Rattle.khazad_lookup.proofs.layer.entry.Goals as goal
 
 pub returns : goal.returns
-returns c = each_entry c.eight-tables.result.now c.eight-tables.ensures c.args.k c.args.x c.requires (omega arith)
+returns c = each_entry c.eight_tables.result.now c.eight_tables.ensures c.args.k c.args.x c.requires (omega arith)

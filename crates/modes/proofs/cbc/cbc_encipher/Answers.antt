@@ -14,10 +14,10 @@ returns g c =
     let there = cbc_enciphered (m.enciphered k) start in
     let back = cbc_deciphered (m.deciphered k) start in
     let buffer = c.args.buffer.now in
-    let whole = granted_whole buffer c.in-ok-whole-blocks.ensures in
-    let left = left_whole there buffer c.encipher-chained.new.blocks whole c.encipher-chained.ensures in
+    let whole = granted_whole buffer c.in_ok-whole_blocks.ensures in
+    let left = left_whole there buffer c.encipher_chained.new.blocks whole c.encipher_chained.ensures in
     record {
-      result = c.in-ok-whole-blocks.ensures;
+      result = c.in_ok-whole_blocks.ensures;
       written = left;
       undone = ap (left_by back) left ∙ left_undone there back (cbc_undone (m.enciphered k) (m.deciphered k) law start (omega arith)) buffer (of_slice buffer (λ i. search rules));
     }

@@ -11,14 +11,14 @@ pub loop-i-preserved : goal.loop-i-preserved
 loop-i-preserved g c =
     let m = g.C.Cipher in
     let f = m.deciphered (m.key c.args.cipher.now) in
-    let block = c.block-at-block.result in
+    let block = c.block_at-block.result in
     let deciphered = c.decipher.result in
     let plain = bit_xor deciphered c.loop-i.before in (
       c.loop-i.invariant.0,
-      omega (arith, c.block-at-block.type-inv),
-      walk_more (cbc_deciphered f) c.args.start c.args.blocks.now c.loop-i.i c.loop-i.before block c.loop-i.blocks c.put-block.new.bytes block plain
-          c.loop-i.invariant.2 c.loop-i.auto.blocks (omega (arith, c.loop-i.invariant.0)) c.block-at-block.ensures
-          (deciphering_goes_on f block plain c.loop-i.before deciphered c.decipher.ensures refl) c.put-block.ensures,
+      omega (arith, c.block_at-block.type_inv),
+      walk_more (cbc_deciphered f) c.args.start c.args.blocks.now c.loop-i.i c.loop-i.before block c.loop-i.blocks c.put_block.new.bytes block plain
+          c.loop-i.invariant.2 c.loop-i.auto.blocks (omega (arith, c.loop-i.invariant.0)) c.block_at-block.ensures
+          (deciphering_goes_on f block plain c.loop-i.before deciphered c.decipher.ensures refl) c.put_block.ensures,
     )
 
 pub returns : goal.returns

@@ -10,13 +10,13 @@ pub loop-i-preserved : goal.loop-i-preserved
 loop-i-preserved g c =
     let m = g.C.Cipher in
     let f = m.enciphered (m.key c.args.cipher.now) in
-    let plain = c.block-at-plain.result in
+    let plain = c.block_at-plain.result in
     let enciphered = c.encipher-enciphered.result in (
       c.loop-i.invariant.0,
-      omega (arith, c.encipher-enciphered.type-inv),
-      walk_more (cbc_enciphered f) c.args.start c.args.blocks.now c.loop-i.i c.loop-i.before enciphered c.loop-i.blocks c.put-block.new.bytes plain enciphered
-          c.loop-i.invariant.2 c.loop-i.auto.blocks (omega (arith, c.loop-i.invariant.0)) c.block-at-plain.ensures
-          (enciphering_goes_on f plain enciphered c.loop-i.before c.encipher-enciphered.ensures) c.put-block.ensures,
+      omega (arith, c.encipher-enciphered.type_inv),
+      walk_more (cbc_enciphered f) c.args.start c.args.blocks.now c.loop-i.i c.loop-i.before enciphered c.loop-i.blocks c.put_block.new.bytes plain enciphered
+          c.loop-i.invariant.2 c.loop-i.auto.blocks (omega (arith, c.loop-i.invariant.0)) c.block_at-plain.ensures
+          (enciphering_goes_on f plain enciphered c.loop-i.before c.encipher-enciphered.ensures) c.put_block.ensures,
     )
 
 pub returns : goal.returns

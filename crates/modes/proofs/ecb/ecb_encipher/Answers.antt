@@ -11,10 +11,10 @@ returns g c =
     let k = m.key c.args.cipher.now in
     let law = g.met.C.Cipher.lawful k (g.met.C.Cipher.keyed c.args.cipher.now) in
     let buffer = c.args.buffer.now in
-    let whole = granted_whole buffer c.in-ok-whole-blocks.ensures in
-    let left = left_whole (ecb (m.enciphered k)) buffer c.encipher-each.new.blocks whole c.encipher-each.ensures in
+    let whole = granted_whole buffer c.in_ok-whole_blocks.ensures in
+    let left = left_whole (ecb (m.enciphered k)) buffer c.encipher_each.new.blocks whole c.encipher_each.ensures in
     record {
-      result = c.in-ok-whole-blocks.ensures;
+      result = c.in_ok-whole_blocks.ensures;
       written = left;
       undone = ap (left_by (ecb (m.deciphered k))) left ∙ left_undone (ecb (m.enciphered k)) (ecb (m.deciphered k)) (ecb-undone (m.enciphered k) (m.deciphered k) law) buffer (of_slice buffer (λ i. search rules));
     }

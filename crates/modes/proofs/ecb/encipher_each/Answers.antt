@@ -11,9 +11,9 @@ loop-i-preserved g c =
     let m = g.C.Cipher in
     let f = m.enciphered (m.key c.args.cipher.now) in (
       c.loop-i.invariant.0,
-      walk_more (λ _. ecb f) 0 c.args.blocks.now c.loop-i.i 0 0 c.loop-i.blocks c.put-block.new.bytes c.block-at-block.result c.encipher.result
-          c.loop-i.invariant.1 c.loop-i.auto.blocks (omega (arith, c.loop-i.invariant.0)) c.block-at-block.ensures
-          (ecb-goes_on f c.block-at-block.result c.encipher.result c.encipher.ensures) c.put-block.ensures,
+      walk_more (λ _. ecb f) 0 c.args.blocks.now c.loop-i.i 0 0 c.loop-i.blocks c.put_block.new.bytes c.block_at-block.result c.encipher.result
+          c.loop-i.invariant.1 c.loop-i.auto.blocks (omega (arith, c.loop-i.invariant.0)) c.block_at-block.ensures
+          (ecb-goes_on f c.block_at-block.result c.encipher.result c.encipher.ensures) c.put_block.ensures,
     )
 
 pub returns : goal.returns

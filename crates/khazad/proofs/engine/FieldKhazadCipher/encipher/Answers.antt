@@ -7,5 +7,5 @@ use Rattle.khazad.proofs.engine.FieldKhazadCipher.encipher.Goals as goal
 pub returns : goal.returns
 returns c =
     let s = c.args.self.now in
-    c.block-of.ensures ∙ ap be_number (c.run.ensures ∙ ap (α (by_number s.forward)) c.bytes-of.ensures)
+    c.block_of.ensures ∙ ap be_number (c.run.ensures ∙ ap (α (by_number s.forward)) c.bytes_of.ensures)
     ∙ runs_forward s.key s.forward s.forward_is_of_key c.args.block
