@@ -19,10 +19,10 @@ loop-turn-preserved c =
       | else-bits-eq1 w ↦ w.sum-is ∙ share_clear bits power sum w.if-bits-eq1.false
     ] in (
       c.double-power.type_inv,
-      ap (λ p. bit_xor c.if-bits-eq1.sum (times (8 - (c.loop-turn.-turn + 1)) (bits / 2) p)) c.double-power.ensures
-          ∙ one_bit_more c.loop-turn.-turn bits power sum c.if-bits-eq1.sum (omega arith) share
+      ap (λ p. bit_xor c.if-bits-eq1.sum (times (8 - (c.loop-turn._turn + 1)) (bits / 2) p)) c.double-power.ensures
+          ∙ one_bit_more c.loop-turn._turn bits power sum c.if-bits-eq1.sum (omega arith) share
           ∙ c.loop-turn.invariant.1,
     )
 
 pub returns : goal.returns
-returns c = sym (no_bit_more c.loop-turn.-turn c.loop-turn.bits c.loop-turn.power c.loop-turn.sum (omega arith)) ∙ c.loop-turn.invariant.1
+returns c = sym (no_bit_more c.loop-turn._turn c.loop-turn.bits c.loop-turn.power c.loop-turn.sum (omega arith)) ∙ c.loop-turn.invariant.1

@@ -7,4 +7,9 @@ invariant_of-result c =
     let key = c.args.bytes in
     let h = of_array _ _ c.well_formed.0 in
     let forward = c.round_keys-forward.result in
-    (h.0, (byte_at 16 key h, (c.round_keys-forward.ensures, (backward_of_key key forward c.round_keys-forward.ensures c.inverse_keys-backward.result c.inverse_keys-backward.ensures, tt))))
+    record {
+      key_has_sixteen = h.0;
+      key_is_bytes = byte_at 16 key h;
+      forward_is_of_key = c.round_keys-forward.ensures;
+      backward_is_of_key = backward_of_key key forward c.round_keys-forward.ensures c.inverse_keys-backward.result c.inverse_keys-backward.ensures;
+    }
