@@ -5,7 +5,7 @@ use Rattle.std.proofs.Math.Nat.{pow-zero}
 use Rattle.std.specs.Int.Bits.{xor_self}
 use Rattle.std.proofs.lemmas.Nat.{pow_below}
 use Rattle.std.proofs.lemmas.Bool.{cases_lt}
-use Rattle.cipher.specs.Block.{Bytes, Block, be_bytes, be_number, ◌⊕◌}
+use Rattle.cipher.specs.Block.{Bytes, Block, be_bytes, be_number}
 use Rattle.cipher.proofs.Rows.{xor_over}
 use Rattle.cipher.proofs.Numbers.{be_bytes-⊕, be_number-⊕, block_bytes, bytes_of_block, number_block}
 use Rattle.khazad.specs.Khazad.{dbl, times, mul, scaled, product, θ}

@@ -2,7 +2,7 @@
 use Rattle.std.proofs.Common.{◌≡◌, ℕ, ◌+◌, ◌-◌, ◌<◌, ◌≤◌, List, length, get_or, refl, ap, ◌∙◌, arith}
 use lib.Bits.{bit_xor}
 use Rattle.std.proofs.lemmas.List.FromFn.{fill_by_all, get_or-map-range_with_len, length-map-range_with_len}
-use Rattle.cipher.specs.Block.{Key, Block, be_bytes, be_number, ◌⊕◌}
+use Rattle.cipher.specs.Block.{Key, Block, be_bytes, be_number}
 use Rattle.cipher.proofs.Numbers.{be_bytes-⊕, block_bytes, bytes_of_block}
 use Rattle.khazad.specs.Khazad.{γ, θ, K, rounds, α, inverse, encipher, decipher, enciphered, deciphered}
 use Rattle.khazad.specs.Layers.{γ-bytes}

@@ -12,8 +12,8 @@ use refusal::Refusal;
 // Adds each block of the buffer to the enciphered block before it, the first to the starting block, and enciphers it.
 pub fn cbc_encipher<C: Cipher>(cipher: &C, start: u64, buffer: &mut [u8]) -> Result<(), Refusal>
     ensures result { result ≡ answered buffer.old }
-    ensures written { buffer.new ≡ left_by (cbc_enciphered (enciphered (key cipher.now)) start) buffer.old }
-    ensures undone { left_by (cbc_deciphered (deciphered (key cipher.now)) start) buffer.new ≡ buffer.old }
+    ensures written { buffer.new ≡ left_by (cbc_enciphered (C.enciphered (C.key cipher.now)) start) buffer.old }
+    ensures undone { left_by (cbc_deciphered (C.deciphered (C.key cipher.now)) start) buffer.new ≡ buffer.old }
 {
     whole_blocks(buffer)?;
     encipher_chained(cipher, start, buffer);
@@ -23,8 +23,8 @@ pub fn cbc_encipher<C: Cipher>(cipher: &C, start: u64, buffer: &mut [u8]) -> Res
 // Deciphers each block of the buffer and adds the enciphered block before it, to the first the starting block.
 pub fn cbc_decipher<C: Cipher>(cipher: &C, start: u64, buffer: &mut [u8]) -> Result<(), Refusal>
     ensures result { result ≡ answered buffer.old }
-    ensures written { buffer.new ≡ left_by (cbc_deciphered (deciphered (key cipher.now)) start) buffer.old }
-    ensures undone { left_by (cbc_enciphered (enciphered (key cipher.now)) start) buffer.new ≡ buffer.old }
+    ensures written { buffer.new ≡ left_by (cbc_deciphered (C.deciphered (C.key cipher.now)) start) buffer.old }
+    ensures undone { left_by (cbc_enciphered (C.enciphered (C.key cipher.now)) start) buffer.new ≡ buffer.old }
 {
     whole_blocks(buffer)?;
     decipher_chained(cipher, start, buffer);
@@ -34,7 +34,7 @@ pub fn cbc_decipher<C: Cipher>(cipher: &C, start: u64, buffer: &mut [u8]) -> Res
 // CBC enciphering of whole blocks.
 fn encipher_chained<C: Cipher>(cipher: &C, start: u64, blocks: &mut [u8])
     requires { length blocks.old % 8 ≡ 0 }
-    ensures { blocks.new ≡ as_bytes (cbc_enciphered (enciphered (key cipher.now)) start (as_blocks blocks.old)) }
+    ensures { blocks.new ≡ as_bytes (cbc_enciphered (C.enciphered (C.key cipher.now)) start (as_blocks blocks.old)) }
 {
     let count = blocks.len() / 8;
     let mut before = start;
@@ -49,7 +49,7 @@ fn encipher_chained<C: Cipher>(cipher: &C, start: u64, blocks: &mut [u8])
 // CBC deciphering of whole blocks. What is added next is the block as it came.
 fn decipher_chained<C: Cipher>(cipher: &C, start: u64, blocks: &mut [u8])
     requires { length blocks.old % 8 ≡ 0 }
-    ensures { blocks.new ≡ as_bytes (cbc_deciphered (deciphered (key cipher.now)) start (as_blocks blocks.old)) }
+    ensures { blocks.new ≡ as_bytes (cbc_deciphered (C.deciphered (C.key cipher.now)) start (as_blocks blocks.old)) }
 {
     let count = blocks.len() / 8;
     let mut before = start;

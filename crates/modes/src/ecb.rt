@@ -12,8 +12,8 @@ use refusal::Refusal;
 // Enciphers each block of the buffer.
 pub fn ecb_encipher<C: Cipher>(cipher: &C, buffer: &mut [u8]) -> Result<(), Refusal>
     ensures result { result ≡ answered buffer.old }
-    ensures written { buffer.new ≡ left_by (ecb (enciphered (key cipher.now))) buffer.old }
-    ensures undone { left_by (ecb (deciphered (key cipher.now))) buffer.new ≡ buffer.old }
+    ensures written { buffer.new ≡ left_by (ecb (C.enciphered (C.key cipher.now))) buffer.old }
+    ensures undone { left_by (ecb (C.deciphered (C.key cipher.now))) buffer.new ≡ buffer.old }
 {
     whole_blocks(buffer)?;
     encipher_each(cipher, buffer);
@@ -23,8 +23,8 @@ pub fn ecb_encipher<C: Cipher>(cipher: &C, buffer: &mut [u8]) -> Result<(), Refu
 // Deciphers each block of the buffer.
 pub fn ecb_decipher<C: Cipher>(cipher: &C, buffer: &mut [u8]) -> Result<(), Refusal>
     ensures result { result ≡ answered buffer.old }
-    ensures written { buffer.new ≡ left_by (ecb (deciphered (key cipher.now))) buffer.old }
-    ensures undone { left_by (ecb (enciphered (key cipher.now))) buffer.new ≡ buffer.old }
+    ensures written { buffer.new ≡ left_by (ecb (C.deciphered (C.key cipher.now))) buffer.old }
+    ensures undone { left_by (ecb (C.enciphered (C.key cipher.now))) buffer.new ≡ buffer.old }
 {
     whole_blocks(buffer)?;
     decipher_each(cipher, buffer);
@@ -34,7 +34,7 @@ pub fn ecb_decipher<C: Cipher>(cipher: &C, buffer: &mut [u8]) -> Result<(), Refu
 // ECB enciphering of whole blocks.
 fn encipher_each<C: Cipher>(cipher: &C, blocks: &mut [u8])
     requires { length blocks.old % 8 ≡ 0 }
-    ensures { blocks.new ≡ as_bytes (ecb (enciphered (key cipher.now)) (as_blocks blocks.old)) }
+    ensures { blocks.new ≡ as_bytes (ecb (C.enciphered (C.key cipher.now)) (as_blocks blocks.old)) }
 {
     let count = blocks.len() / 8;
     for i in 0..count {
@@ -46,7 +46,7 @@ fn encipher_each<C: Cipher>(cipher: &C, blocks: &mut [u8])
 // ECB deciphering of whole blocks.
 fn decipher_each<C: Cipher>(cipher: &C, blocks: &mut [u8])
     requires { length blocks.old % 8 ≡ 0 }
-    ensures { blocks.new ≡ as_bytes (ecb (deciphered (key cipher.now)) (as_blocks blocks.old)) }
+    ensures { blocks.new ≡ as_bytes (ecb (C.deciphered (C.key cipher.now)) (as_blocks blocks.old)) }
 {
     let count = blocks.len() / 8;
     for i in 0..count {

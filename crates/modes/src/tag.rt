@@ -12,9 +12,9 @@ use cipher::{Cipher, block_at, block_of};
 // - one_block_tells: a message that differs from this one inside just one block has another tag;
 // - from_header: the tag of a header block and a body is that of the body, chained from the enciphered header.
 pub fn cmac<C: Cipher>(cipher: &C, message: &[u8]) -> u64
-    ensures value { result ≡ CMAC (enciphered (key cipher.now)) message.now }
-    ensures one_block_tells { (other : List ℕ) → All Byte other → DifferInOneBlock message.now other → result ≢ CMAC (enciphered (key cipher.now)) other }
-    ensures from_header { (header : ℕ) (body : List ℕ) → Block header → 0 < length body → message.now ≡ be_bytes 8 header ++ body → result ≡ tag_from (enciphered (key cipher.now)) (enciphered (key cipher.now) header) body }
+    ensures value { result ≡ CMAC (C.enciphered (C.key cipher.now)) message.now }
+    ensures one_block_tells { (other : List ℕ) → All Byte other → DifferInOneBlock message.now other → result ≢ CMAC (C.enciphered (C.key cipher.now)) other }
+    ensures from_header { (header : ℕ) (body : List ℕ) → Block header → 0 < length body → message.now ≡ be_bytes 8 header ++ body → result ≡ tag_from (C.enciphered (C.key cipher.now)) (C.enciphered (C.key cipher.now) header) body }
 {
     let before = message.len().saturating_sub(1) / 8;
     let mut chain = 0u64;
@@ -29,7 +29,7 @@ pub fn cmac<C: Cipher>(cipher: &C, message: &[u8]) -> u64
 // fewer bytes padded under the second.
 fn last_block<C: Cipher>(cipher: &C, bytes: &[u8]) -> u64
     requires { length bytes.now ≤ 8 }
-    ensures { result ≡ last_block (enciphered (key cipher.now)) bytes.now }
+    ensures { result ≡ last_block (C.enciphered (C.key cipher.now)) bytes.now }
 {
     let k1 = double(cipher.encipher(0));
     let k2 = double(k1);

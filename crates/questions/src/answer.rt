@@ -126,7 +126,7 @@ pub fn read_question(heap: Global, words: &Words<'_>) -> Result<Option<Question>
 // A mode over a buffer, by any cipher.
 fn work_in_place<C: Cipher>(cipher: &C, mode: Mode, buffer: &mut [u8]) -> Result<(), Refusal>
     ensures result { result ≡ answered buffer.old }
-    ensures written { buffer.new ≡ left_by (mode_of (enciphered (key cipher.now)) (deciphered (key cipher.now)) mode) buffer.old }
+    ensures written { buffer.new ≡ left_by (mode_of (C.enciphered (C.key cipher.now)) (C.deciphered (C.key cipher.now)) mode) buffer.old }
 {
     match mode {
         Mode::EcbEncipher => ecb_encipher(cipher, buffer),
@@ -138,7 +138,7 @@ fn work_in_place<C: Cipher>(cipher: &C, mode: Mode, buffer: &mut [u8]) -> Result
 
 // What is replied to a question, by any cipher.
 fn answer_by<C: Cipher + Drop>(heap: Global, question: Question) -> Result<Reply, AllocError>
-    ensures { IfOk result (λ reply. said reply ≡ said_by (enciphered question.key) (deciphered question.key) question.operation question.text.items) }
+    ensures { IfOk result (λ reply. said reply ≡ said_by (C.enciphered question.key) (C.deciphered question.key) question.operation question.text.items) }
 {
     let cipher = C::prepare(question.key);
     let mut text = question.text;

@@ -11,8 +11,8 @@ returns c =
     let first = be_bytes 8 c.args.first in
     let second = be_bytes 8 c.args.second in
     let eight = sym (block_bytes c.args.first).0 in
-    let eight-more = sym (block_bytes c.args.second).0 in
+    let eight_more = sym (block_bytes c.args.second).0 in
     let sixteen : 16 ≡ length (first ++ second) = omega (arith, length-append first second) in
     c.put_block-2.ensures ∙ ap (λ d. paste d 8 second 8) c.put_block.ensures
-    ∙ paste-paste (replicate 16 0) 0 first second 8 8 eight eight-more (omega arith)
+    ∙ paste-paste (replicate 16 0) 0 first second 8 8 eight eight_more (omega arith)
     ∙ paste_all (replicate 16 0) 0 (first ++ second) 16 sixteen ∙ append-nil (first ++ second)

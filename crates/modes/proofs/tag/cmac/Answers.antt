@@ -29,5 +29,5 @@ returns g c =
     record {
       value = value;
       one_block_tells = λ other each d same. one_block_tells (m.enciphered k) (m.deciphered k) law message other (of_slice message c.type_inv.message) each d (sym value ∙ same);
-      from-header = λ header body h some split. value ∙ ap (CMAC (m.enciphered k)) split ∙ tag_of_header_and_body (m.enciphered k) header body h some;
+      from_header = λ header body h some split. value ∙ ap (CMAC (m.enciphered k)) split ∙ tag_of_header_and_body (m.enciphered k) header body h some;
     }

@@ -6,5 +6,10 @@ pub invariant_of-result : goal.invariant_of-result
 invariant_of-result c =
     let key = c.args.bytes in
     let h = of_array _ _ c.well_formed.0 in
-    let of-key = c.round_keys-forward.ensures in
-    (h.0, (byte_at 16 key h, (of-key, (backward_of_key key h c.round_keys-forward.result c.inverse_keys-backward.result of-key c.inverse_keys-backward.ensures, tt))))
+    let of_key = c.round_keys-forward.ensures in
+    record {
+      key_has_sixteen = h.0;
+      key_is_bytes = byte_at 16 key h;
+      forward_is_of_key = of_key;
+      backward_is_of_key = backward_of_key key h c.round_keys-forward.result c.inverse_keys-backward.result of_key c.inverse_keys-backward.ensures;
+    }
