@@ -7,7 +7,7 @@ use Rattle.std.proofs.lemmas.Int.Digits.{number_push, number_lt}
 use Rattle.std.proofs.ByRecursion.{All-push, All-take}
 use Rattle.std.proofs.lemmas.List.{length_push, take_all, take_more, length-take-le}
 use Rattle.std.specs.Int.Digits.{number_from_digits, number_from_digits_after}
-use Rattle.std.specs.List.{AllByRecursion as All}
+use Rattle.std.specs.List.{AllByRecursion}
 use Rattle.cipher.specs.Block.{Byte, Bytes, Block, be_bytes, be_number, ◌⊕◌}
 use Rattle.cipher.proofs.Rows.{byte_at, eight_places, xor_over, ⊕-push}
 
@@ -79,7 +79,7 @@ after_front n (x ∷ xs) =
     after_front (n * 256 + x) xs
     ∙ omega (arith, after_front (0 * 256 + x) xs, add-mul (n * 256) x p, mul_assoc n 256 p, ap (λ q. n * q) (pow-succ' 256 (length xs)))
 
-pub number_first : (x : ℕ) (xs : List ℕ) → All Byte xs → be_number (x ∷ xs) ≡ bit_xor (x * 256 ^ length xs) (be_number xs)
+pub number_first : (x : ℕ) (xs : List ℕ) → AllByRecursion Byte xs → be_number (x ∷ xs) ≡ bit_xor (x * 256 ^ length xs) (be_number xs)
 unfolding be_number
 number_first x xs each =
     let bits = bytes_are_bits (length xs) in

@@ -8,7 +8,7 @@ use Rattle.std.proofs.lemmas.List.{take_rest, at_drop_more, at_drop_all}
 use Rattle.std.proofs.lemmas.Bool.{cond-false, and_left, and_right, ne_eqb}
 use Rattle.std.proofs.lemmas.Bool.Decides.{nat_tests}
 use Rattle.std.specs.Option.{option_map}
-use Rattle.std.specs.List.{AllByRecursion as All}
+use Rattle.std.specs.List.{AllByRecursion}
 use Rattle.std.specs.Str.{bytes_eq}
 use Rattle.hexadecimal.specs.Hex.{digit, pair, before, unhex, mark, hex, word_bytes, shown_bytes}
 
@@ -90,11 +90,11 @@ pair-of_byte byte h =
     let whole : byte / 16 * 16 + byte % 16 ≡ byte = omega arith in
     ap (λ o. pair o (digit (mark (byte % 16)))) (digit-of_mark (byte / 16) high) ∙ ap (pair (Some (byte / 16))) (digit-of_mark (byte % 16) low) ∙ ap Some whole
 
-pub all_bytes : (bytes : List ℕ) → ((i : ℕ) → Fits w8 (get_or bytes i 0)) → All (λ byte. byte < 256) bytes
+pub all_bytes : (bytes : List ℕ) → ((i : ℕ) → Fits w8 (get_or bytes i 0)) → AllByRecursion (λ byte. byte < 256) bytes
 all_bytes bytes fits = All-from_get_or (λ byte. byte < 256) bytes 0 (λ i h. Fits-lt-pow (fits i))
 
 -- what is written as digits is read back
-pub unhex-undoes_hex : (bytes : List ℕ) → All (λ byte. byte < 256) bytes → unhex (hex bytes) ≡ Some bytes
+pub unhex-undoes_hex : (bytes : List ℕ) → AllByRecursion (λ byte. byte < 256) bytes → unhex (hex bytes) ≡ Some bytes
 unfolding unhex hex
 unhex-undoes_hex [] h = refl
 unhex-undoes_hex (byte ∷ rest) h = ap (λ o. before o (unhex (hex rest))) (pair-of_byte byte h.0) ∙ ap (before (Some byte)) (unhex-undoes_hex rest h.1)
@@ -129,7 +129,7 @@ some_bytes_are_digits [] h = absurd (h refl)
 some_bytes_are_digits (byte ∷ bytes) h = refl
 
 -- what is written as a word is read back
-pub reading_undoes_showing : (bytes : List ℕ) → All (λ byte. byte < 256) bytes → word_bytes (shown_bytes bytes) ≡ Some bytes
+pub reading_undoes_showing : (bytes : List ℕ) → AllByRecursion (λ byte. byte < 256) bytes → word_bytes (shown_bytes bytes) ≡ Some bytes
 unfolding shown_bytes word_bytes hex
 reading_undoes_showing [] h = refl
 reading_undoes_showing (byte ∷ bytes) h = sym (other_word_is_digits (hex (byte ∷ bytes)) (omega arith) (λ one _. omega arith)) ∙ unhex-undoes_hex (byte ∷ bytes) h

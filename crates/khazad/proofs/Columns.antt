@@ -3,7 +3,7 @@ use Rattle.std.proofs.Common.{◌≡◌, ℕ, ◌+◌, ◌*◌, ◌<◌, ◌≤�
 use lib.Bits.{bit_xor, xor_assoc, xor_zero_r}
 use Rattle.std.proofs.lemmas.Simd.{get_or-zip2}
 use Rattle.std.proofs.lemmas.List.{get_or-map, get_or-replicate, drop_more, drop_all}
-use Rattle.std.specs.List.{flat_map, AllByRecursion as All}
+use Rattle.std.specs.List.{flat_map, AllByRecursion}
 use Rattle.cipher.specs.Block.{Byte, Bytes}
 use Rattle.khazad.specs.Khazad.{mul, H, scaled, product, θ}
 use Rattle.khazad.specs.Layers.{Wide, H-wide, scaled-bytes, product-bytes}
@@ -15,7 +15,7 @@ dot [] rows j = 0
 dot (x ∷ xs) [] j = 0
 dot (x ∷ xs) (row ∷ rows) j = bit_xor (mul (get_or row j 0) x) (dot xs rows j)
 
-pub product_at : (a : List ℕ) → All Byte a → (rows : List (List ℕ)) → Wide rows → (j : ℕ) → j < 8 → get_or (product a rows) j 0 ≡ dot a rows j
+pub product_at : (a : List ℕ) → AllByRecursion Byte a → (rows : List (List ℕ)) → Wide rows → (j : ℕ) → j < 8 → get_or (product a rows) j 0 ≡ dot a rows j
 unfolding product dot scaled
 product_at [] h rows w j l = get_or-replicate 8 j 0 0 l
 product_at (x ∷ a) h [] w j l = get_or-replicate 8 j 0 0 l

@@ -2,7 +2,7 @@
 use Rattle.std.specs.Prelude.{◌≡◌, ℕ, ◌<◌, List, [], ◌∷◌, length, replicate, bit_xor, slice_index, refl}
 use Rattle.std.proofs.Common.{sym, ap₂, ◌∙◌, arith}
 use Rattle.std.proofs.lemmas.List.{get_or-map, length-map}
-use Rattle.std.specs.List.{AllByRecursion as All}
+use Rattle.std.specs.List.{AllByRecursion}
 use Rattle.cipher.specs.Block.{Byte, Bytes, ◌⊕◌}
 use Rattle.cipher.proofs.Rows.{⊕-bytes, ⊕-middle}
 use Rattle.khazad.specs.Khazad.{S, γ, H, mul, scaled, product, θ}
@@ -11,7 +11,7 @@ use Rattle.khazad.specs.Products.{mul-xor, mul-byte}
 
 -- ---- γ
 
-each_boxed : (a : List ℕ) → All Byte a → All Byte (γ a)
+each_boxed : (a : List ℕ) → AllByRecursion Byte a → AllByRecursion Byte (γ a)
 unfolding γ
 each_boxed [] h = tt
 each_boxed (x ∷ a) h = (S-byte x h.0, each_boxed a h.1)
@@ -24,14 +24,14 @@ pub γ-at : (n : ℕ) (a : List ℕ) → length a ≡ n → (k : ℕ) → k < n 
 unfolding γ
 γ-at n a h k l = get_or-map S a k 0 0 (omega arith)
 
-pub γ-twice : (a : List ℕ) → All Byte a → γ (γ a) ≡ a
+pub γ-twice : (a : List ℕ) → AllByRecursion Byte a → γ (γ a) ≡ a
 unfolding γ
 γ-twice [] h = refl
 γ-twice (x ∷ a) h = ap₂ {C = List ℕ} (λ z zs. z ∷ zs) (S-twice x h.0) (γ-twice a h.1)
 
 -- ---- a byte times a row
 
-each_scaled : (x : ℕ) → x < 256 → (row : List ℕ) → All Byte (scaled x row)
+each_scaled : (x : ℕ) → x < 256 → (row : List ℕ) → AllByRecursion Byte (scaled x row)
 unfolding scaled
 each_scaled x h [] = tt
 each_scaled x h (e ∷ row) = (mul-byte e x h, each_scaled x h row)
@@ -49,7 +49,7 @@ scaled-xor x y hx hy (e ∷ row) = ap₂ {C = List ℕ} (λ z zs. z ∷ zs) (mul
 
 -- each row has eight entries
 abbrev pub Wide : List (List ℕ) → Type 0
-Wide rows = All (λ row. length row ≡ 8) rows
+Wide rows = AllByRecursion (λ row. length row ≡ 8) rows
 
 pub H-wide : Wide H
 H-wide = (refl, (refl, (refl, (refl, (refl, (refl, (refl, (refl, tt))))))))
@@ -57,14 +57,14 @@ H-wide = (refl, (refl, (refl, (refl, (refl, (refl, (refl, (refl, tt))))))))
 pub zeros : Bytes 8 (replicate 8 0)
 zeros = (refl, omega arith)
 
-pub product-bytes : (a : List ℕ) → All Byte a → (rows : List (List ℕ)) → Wide rows → Bytes 8 (product a rows)
+pub product-bytes : (a : List ℕ) → AllByRecursion Byte a → (rows : List (List ℕ)) → Wide rows → Bytes 8 (product a rows)
 unfolding product
 product-bytes [] h rows w = zeros
 product-bytes (x ∷ a) h [] w = zeros
 product-bytes (x ∷ a) h (row ∷ rows) w =
     ⊕-bytes 8 (scaled x row) (product a rows) (scaled-bytes x h.0 row w.0) (product-bytes a h.1 rows w.1)
 
-product-xor : (a b : List ℕ) → length a ≡ length b → All Byte a → All Byte b → (rows : List (List ℕ)) → product (a ⊕ b) rows ≡ product a rows ⊕ product b rows
+product-xor : (a b : List ℕ) → length a ≡ length b → AllByRecursion Byte a → AllByRecursion Byte b → (rows : List (List ℕ)) → product (a ⊕ b) rows ≡ product a rows ⊕ product b rows
 unfolding product
 product-xor [] [] e ha hb rows = refl
 product-xor [] (y ∷ b) e ha hb rows = absurd (omega arith)

@@ -5,7 +5,7 @@ use Rattle.std.proofs.lemmas.Nat.{mod_below}
 use Rattle.std.proofs.ByRecursion.{All-append, All-drop}
 use Rattle.std.proofs.lemmas.List.{append_cancel_right, length-append, length-drop, length-replicate, take_all, take-take, take-append-drop, take_rest, drop-take, drop_at, drop-drop, drop-replicate, set_at}
 use Rattle.std.proofs.lemmas.Bool.{cond_both, cond-true, cond-false, cases_lt, cases_eq, eq-eqb, ne_eqb}
-use Rattle.std.specs.List.{between, AllByRecursion as All}
+use Rattle.std.specs.List.{between, AllByRecursion}
 use borrow.Rule.Slice.PartMut.{post_of}
 use Rattle.cipher.specs.Block.{Byte, Bytes, Block, be_bytes, be_number, first_blocks, DifferInOneBlock}
 use Rattle.cipher.specs.Inverse.{Inverse}
@@ -23,7 +23,7 @@ doubled-block b =
     let shifted : b * 2 % 2 ^ 64 < 2 ^ 64 = mod_below (b * 2) (2 ^ 64) (lit< tt) in
     cond_both (leb (2 ^ 63) b) (bit_xor (b * 2 % 2 ^ 64) 0x1B) (b * 2 % 2 ^ 64) (λ x. x < 2 ^ 64) (λ _. xor_lt 64 (b * 2 % 2 ^ 64) 0x1B shifted (lit< tt)) (λ _. shifted)
 
-padded-bytes : (bytes : List ℕ) → All Byte bytes → length bytes < 8 → Bytes 8 (padded bytes)
+padded-bytes : (bytes : List ℕ) → AllByRecursion Byte bytes → length bytes < 8 → Bytes 8 (padded bytes)
 padded-bytes bytes each few = (
   length-append bytes (0x80 ∷ replicate (7 - length bytes) 0) ∙ omega (arith, length-replicate {A = ℕ} (7 - length bytes) 0),
   All-append Byte bytes (0x80 ∷ replicate (7 - length bytes) 0) each (lit< tt, zeros (7 - length bytes)),
@@ -56,7 +56,7 @@ module _ (CIPH : ℕ → ℕ) where
     pub last_of_fewer : (length bytes ≡ 8 → ⊥) → block ≡ be_number (padded bytes) → bit_xor k2 block ≡ last_block CIPH bytes
     last_of_fewer short read = ap₂ bit_xor (two ∙ ap doubled is_K1) read ∙ sym (short_last bytes short)
 
-  last_is_block : (bytes : List ℕ) → All Byte bytes → length bytes ≤ 8 → Block (last_block CIPH bytes)
+  last_is_block : (bytes : List ℕ) → AllByRecursion Byte bytes → length bytes ≤ 8 → Block (last_block CIPH bytes)
   last_is_block bytes each few =
       ⊎_elim
       (λ whole. subst Block (sym (whole_last bytes whole)) (xor_lt 64 (K1 CIPH) (be_number bytes) (doubled-block (CIPH 0)) (number_block bytes (whole, each))))
@@ -64,7 +64,7 @@ module _ (CIPH : ℕ → ℕ) where
       (cases_eq (length bytes) 8)
 
   -- as many last bytes are told by their last block
-  last_tells : (xs ys : List ℕ) → All Byte xs → All Byte ys → length xs ≡ length ys → length xs ≤ 8 → last_block CIPH xs ≡ last_block CIPH ys → xs ≡ ys
+  last_tells : (xs ys : List ℕ) → AllByRecursion Byte xs → AllByRecursion Byte ys → length xs ≡ length ys → length xs ≤ 8 → last_block CIPH xs ≡ last_block CIPH ys → xs ≡ ys
   last_tells xs ys hx hy long few e =
       ⊎_elim
       (λ whole.
@@ -129,7 +129,7 @@ module _ (CIPH : ℕ → ℕ) where
 
 module _ (CIPH back : ℕ → ℕ) (law : Inverse CIPH back) where
   -- a message keeps two chains apart
-  chained-apart : (bs : List ℕ) (C D : ℕ) → All Block bs → Block C → Block D → chained CIPH C bs ≡ chained CIPH D bs → C ≡ D
+  chained-apart : (bs : List ℕ) (C D : ℕ) → AllByRecursion Block bs → Block C → Block D → chained CIPH C bs ≡ chained CIPH D bs → C ≡ D
   unfolding chained
   chained-apart [] C D each hc hd e = e
   chained-apart (M ∷ Ms) C D each hc hd e =
@@ -137,20 +137,20 @@ module _ (CIPH back : ℕ → ℕ) (law : Inverse CIPH back) where
       let d = xor_lt 64 D M hd each.0 in
       xor_cancel_right C D M (apart law (bit_xor C M) (bit_xor D M) c d (chained-apart Ms (CIPH (bit_xor C M)) (CIPH (bit_xor D M)) each.1 (law.there_to_blocks (bit_xor C M) c) (law.there_to_blocks (bit_xor D M) d) e))
 
-  chained-block : (bs : List ℕ) (C : ℕ) → All Block bs → Block C → Block (chained CIPH C bs)
+  chained-block : (bs : List ℕ) (C : ℕ) → AllByRecursion Block bs → Block C → Block (chained CIPH C bs)
   unfolding chained
   chained-block [] C each hc = hc
   chained-block (M ∷ Ms) C each hc = chained-block Ms (CIPH (bit_xor C M)) each.1 (law.there_to_blocks (bit_xor C M) (xor_lt 64 C M hc each.0))
 
   -- what a tag is enciphered from is a block
-  module _ (message : List ℕ) (each : All Byte message) where
-    blocks_before : All Block (first_blocks (before_last message) message)
+  module _ (message : List ℕ) (each : AllByRecursion Byte message) where
+    blocks_before : AllByRecursion Block (first_blocks (before_last message) message)
     blocks_before = first_blocks-blocks (before_last message) message each (omega arith)
 
     last_of : Block (last_block CIPH (drop (8 * before_last message) message))
     last_of = last_is_block CIPH (drop (8 * before_last message) message) (All-drop Byte (8 * before_last message) message each) (omega (arith, length-drop (8 * before_last message) message))
 
-  tag_from-apart : (message : List ℕ) (C D : ℕ) → All Byte message → Block C → Block D → tag_from CIPH C message ≡ tag_from CIPH D message → C ≡ D
+  tag_from-apart : (message : List ℕ) (C D : ℕ) → AllByRecursion Byte message → Block C → Block D → tag_from CIPH C message ≡ tag_from CIPH D message → C ≡ D
   unfolding tag_from
   tag_from-apart message C D each hc hd e =
       let bs = first_blocks (before_last message) message in
@@ -162,14 +162,14 @@ module _ (CIPH back : ℕ → ℕ) (law : Inverse CIPH back) where
       chained-apart bs C D blocks hc hd
       (xor_cancel_right (chained CIPH C bs) (chained CIPH D bs) last (apart law (bit_xor (chained CIPH C bs) last) (bit_xor (chained CIPH D bs) last) (xor_lt 64 (chained CIPH C bs) last c lastly) (xor_lt 64 (chained CIPH D bs) last d lastly) e))
 
-  pub tag_block : (message : List ℕ) (C : ℕ) → All Byte message → Block C → Block (tag_from CIPH C message)
+  pub tag_block : (message : List ℕ) (C : ℕ) → AllByRecursion Byte message → Block C → Block (tag_from CIPH C message)
   unfolding tag_from
   tag_block message C each hc =
       let bs = first_blocks (before_last message) message in
       let last = last_block CIPH (drop (8 * before_last message) message) in
       law.there_to_blocks (bit_xor (chained CIPH C bs) last) (xor_lt 64 (chained CIPH C bs) last (chained-block bs C (blocks_before message each) hc) (last_of message each))
 
-  pub CMAC-block : (message : List ℕ) → All Byte message → Block (CMAC CIPH message)
+  pub CMAC-block : (message : List ℕ) → AllByRecursion Byte message → Block (CMAC CIPH message)
   unfolding CMAC
   CMAC-block message each = tag_block message 0 each (lit< tt)
 
@@ -181,14 +181,14 @@ module _ (CIPH back : ℕ → ℕ) (law : Inverse CIPH back) where
       ap (λ n. CIPH (bit_xor (chained CIPH C (first_blocks n message)) (last_block CIPH (drop (8 * n) message)))) none
 
   -- a longer one is a header and a body
-  long_tag : (C : ℕ) (message : List ℕ) → All Byte message → 8 < length message → tag_from CIPH C message ≡ tag_from CIPH (CIPH (bit_xor C (be_number (take 8 message)))) (drop 8 message)
+  long_tag : (C : ℕ) (message : List ℕ) → AllByRecursion Byte message → 8 < length message → tag_from CIPH C message ≡ tag_from CIPH (CIPH (bit_xor C (be_number (take 8 message)))) (drop 8 message)
   long_tag C message each many =
       let eight = first_eight message each (omega arith) in
       let header = be_number (take 8 message) in
       let split : message ≡ be_bytes 8 header ++ drop 8 message = sym (take-append-drop 8 message) ∙ ap (λ front. front ++ drop 8 message) (sym (bytes_of_block (take 8 message) eight)) in
       ap (tag_from CIPH C) split ∙ header_first CIPH C header (drop 8 message) (number_block (take 8 message) eight) (omega (arith, length-drop 8 message))
 
-  module _ (xs ys : List ℕ) (hx : All Byte xs) (hy : All Byte ys) (long : length xs ≡ length ys) where
+  module _ (xs ys : List ℕ) (hx : AllByRecursion Byte xs) (hy : AllByRecursion Byte ys) (long : length xs ≡ length ys) where
     short_tells : (C : ℕ) → Block C → length xs ≤ 8 → tag_from CIPH C xs ≡ tag_from CIPH C ys → xs ≡ ys
     short_tells C hc few e =
         let lx = last_is_block CIPH xs hx few in
@@ -230,7 +230,7 @@ module _ (CIPH back : ℕ → ℕ) (law : Inverse CIPH back) where
       into_chain = law.there_to_blocks (bit_xor C x) (xor_lt 64 C x hc (number_block (take 8 xs) (first_eight xs hx (omega arith))))
 
   -- where all that differs lies inside one block, and the tags are the same, nothing differs
-  tells : (place : ℕ) (xs ys : List ℕ) (C : ℕ) → All Byte xs → All Byte ys → length xs ≡ length ys → Block C
+  tells : (place : ℕ) (xs ys : List ℕ) (C : ℕ) → AllByRecursion Byte xs → AllByRecursion Byte ys → length xs ≡ length ys → Block C
       → take (8 * place) xs ≡ take (8 * place) ys → drop (8 * place + 8) xs ≡ drop (8 * place + 8) ys → tag_from CIPH C xs ≡ tag_from CIPH C ys → xs ≡ ys
   tells zero xs ys C hx hy long hc before after e =
       ⊎_elim
@@ -252,6 +252,6 @@ module _ (CIPH back : ℕ → ℕ) (law : Inverse CIPH back) where
       (λ few. short_tells xs ys hx hy long C hc few e) (cases_lt 8 (length xs))
 
   -- messages that differ inside just one block have different tags
-  pub one_block_tells : (xs ys : List ℕ) → All Byte xs → All Byte ys → DifferInOneBlock xs ys → CMAC CIPH xs ≡ CMAC CIPH ys → ⊥
+  pub one_block_tells : (xs ys : List ℕ) → AllByRecursion Byte xs → AllByRecursion Byte ys → DifferInOneBlock xs ys → CMAC CIPH xs ≡ CMAC CIPH ys → ⊥
   unfolding CMAC
   one_block_tells xs ys hx hy d e = d.differ (tells d.place xs ys 0 hx hy d.as_long (lit< tt) d.same_before d.same_after e)

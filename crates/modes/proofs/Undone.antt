@@ -2,7 +2,7 @@
 use Rattle.std.proofs.Common.{◌≡◌, ℕ, suc, ◌%◌, List, [], ◌∷◌, length, Ok, Err, sym, refl, ap, ◌∙◌, ap₂, ⊎_elim, arith}
 use lib.Bits.{bit_xor, xor_lt}
 use Rattle.std.proofs.lemmas.Bool.{cond-true, cond-false, cases_Bool, eq-eqb, eqb-true}
-use Rattle.std.specs.List.{AllByRecursion as All}
+use Rattle.std.specs.List.{AllByRecursion}
 use Rattle.refusal.specs.declared.cause.Refusal.TheVariants.{NotWholeBlocks}
 use Rattle.cipher.specs.Block.{Byte, Block, as_blocks, as_bytes, is_whole}
 use Rattle.cipher.specs.Inverse.{Inverse}
@@ -16,12 +16,12 @@ use Rattle.modes.specs.Cbc.{cbc_enciphered, cbc_deciphered}
 
 -- a mode takes blocks to as many blocks, and another mode takes these back
 pub record Undoes (there back : List ℕ → List ℕ) : Type 0 where
-  pub to_blocks : (bs : List ℕ) → All Block bs → All Block (there bs)
+  pub to_blocks : (bs : List ℕ) → AllByRecursion Block bs → AllByRecursion Block (there bs)
   pub as_many : (bs : List ℕ) → length (there bs) ≡ length bs
-  pub back_again : (bs : List ℕ) → All Block bs → back (there bs) ≡ bs
+  pub back_again : (bs : List ℕ) → AllByRecursion Block bs → back (there bs) ≡ bs
 
 module _ (there back : ℕ → ℕ) (law : Inverse there back) where
-  ecb-blocks : (bs : List ℕ) → All Block bs → All Block (ecb there bs)
+  ecb-blocks : (bs : List ℕ) → AllByRecursion Block bs → AllByRecursion Block (ecb there bs)
   unfolding ecb
   ecb-blocks [] each = tt
   ecb-blocks (b ∷ bs) each = (law.there_to_blocks b each.0, ecb-blocks bs each.1)
@@ -31,7 +31,7 @@ module _ (there back : ℕ → ℕ) (law : Inverse there back) where
   ecb-as_many [] = refl
   ecb-as_many (b ∷ bs) = ap suc (ecb-as_many bs)
 
-  ecb-back_again : (bs : List ℕ) → All Block bs → ecb back (ecb there bs) ≡ bs
+  ecb-back_again : (bs : List ℕ) → AllByRecursion Block bs → ecb back (ecb there bs) ≡ bs
   unfolding ecb
   ecb-back_again [] each = refl
   ecb-back_again (b ∷ bs) each = ap₂ {C = List ℕ} (λ c cs. c ∷ cs) (law.back_undoes b each.0) (ecb-back_again bs each.1)
@@ -40,7 +40,7 @@ module _ (there back : ℕ → ℕ) (law : Inverse there back) where
   pub ecb-undone : Undoes (ecb there) (ecb back)
   ecb-undone = record { to_blocks = ecb-blocks; as_many = ecb-as_many; back_again = ecb-back_again }
 
-  enciphered_blocks : (bs : List ℕ) (start : ℕ) → Block start → All Block bs → All Block (cbc_enciphered there start bs)
+  enciphered_blocks : (bs : List ℕ) (start : ℕ) → Block start → AllByRecursion Block bs → AllByRecursion Block (cbc_enciphered there start bs)
   unfolding cbc_enciphered
   enciphered_blocks [] start hs each = tt
   enciphered_blocks (P ∷ Ps) start hs each =
@@ -52,7 +52,7 @@ module _ (there back : ℕ → ℕ) (law : Inverse there back) where
   enciphered_as_many [] start = refl
   enciphered_as_many (P ∷ Ps) start = ap suc (enciphered_as_many Ps (there (bit_xor P start)))
 
-  deciphered_again : (bs : List ℕ) (start : ℕ) → Block start → All Block bs → cbc_deciphered back start (cbc_enciphered there start bs) ≡ bs
+  deciphered_again : (bs : List ℕ) (start : ℕ) → Block start → AllByRecursion Block bs → cbc_deciphered back start (cbc_enciphered there start bs) ≡ bs
   unfolding cbc_enciphered cbc_deciphered
   deciphered_again [] start hs each = refl
   deciphered_again (P ∷ Ps) start hs each =
@@ -60,7 +60,7 @@ module _ (there back : ℕ → ℕ) (law : Inverse there back) where
       ap₂ {C = List ℕ} (λ c cs. c ∷ cs) (ap (λ z. bit_xor z start) (law.back_undoes (bit_xor P start) sum) ∙ xor_twice P start)
       (deciphered_again Ps (there (bit_xor P start)) (law.there_to_blocks (bit_xor P start) sum) each.1)
 
-  deciphered_blocks : (bs : List ℕ) (start : ℕ) → Block start → All Block bs → All Block (cbc_deciphered back start bs)
+  deciphered_blocks : (bs : List ℕ) (start : ℕ) → Block start → AllByRecursion Block bs → AllByRecursion Block (cbc_deciphered back start bs)
   unfolding cbc_deciphered
   deciphered_blocks [] start hs each = tt
   deciphered_blocks (C ∷ Cs) start hs each =
@@ -71,7 +71,7 @@ module _ (there back : ℕ → ℕ) (law : Inverse there back) where
   deciphered_as_many [] start = refl
   deciphered_as_many (C ∷ Cs) start = ap suc (deciphered_as_many Cs C)
 
-  enciphered_again : (bs : List ℕ) (start : ℕ) → Block start → All Block bs → cbc_enciphered there start (cbc_deciphered back start bs) ≡ bs
+  enciphered_again : (bs : List ℕ) (start : ℕ) → Block start → AllByRecursion Block bs → cbc_enciphered there start (cbc_deciphered back start bs) ≡ bs
   unfolding cbc_enciphered cbc_deciphered
   enciphered_again [] start hs each = refl
   enciphered_again (C ∷ Cs) start hs each =
@@ -99,7 +99,7 @@ granted_whole buffer e =
 pub left_whole : (mode : List ℕ → List ℕ) (buffer left : List ℕ) → length buffer % 8 ≡ 0 → left ≡ as_bytes (mode (as_blocks buffer)) → left ≡ left_by mode buffer
 left_whole mode buffer left whole made = made ∙ sym (cond-true (is_whole buffer) (as_bytes (mode (as_blocks buffer))) buffer (eq-eqb (length buffer % 8) 0 whole))
 
-module _ (there back : List ℕ → List ℕ) (undoes : Undoes there back) (buffer : List ℕ) (each : All Byte buffer) where
+module _ (there back : List ℕ → List ℕ) (undoes : Undoes there back) (buffer : List ℕ) (each : AllByRecursion Byte buffer) where
   -- whole blocks come back, and what was refused was left as it was
   pub left_undone : left_by back (left_by there buffer) ≡ buffer
   left_undone =
