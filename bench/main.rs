@@ -9,7 +9,7 @@ mod khazad;
 use khazad::Khazad;
 use std::time::Instant;
 
-// What `rt staticlib timed` exports. A slice crosses as a pointer and a length.
+// What the static library of crates/timed exports. A slice crosses as a pointer and a length.
 unsafe extern "C" {
     fn buzhnika_khazad_lookup_ecb(first: u64, second: u64, text: *mut u8, len: usize) -> bool;
     fn buzhnika_khazad_lookup_cbc(first: u64, second: u64, start: u64, text: *mut u8, len: usize) -> bool;
