@@ -1,13 +1,12 @@
 -- A row times a matrix, column by column.
-use Rattle.std.proofs.Common.{◌≡◌, ℕ, ◌+◌, ◌*◌, ◌<◌, ◌≤◌, List, [], ◌∷◌, length, get_or, drop, sym, ap, ◌∙◌, ap₂, arith}
+use Rattle.std.proofs.Common.{◌≡◌, ℕ, ◌+◌, ◌*◌, ◌<◌, ◌≤◌, List, [], ◌∷◌, ◌++◌, length, get_or, drop, sym, refl, ap, ◌∙◌, ap₂, arith}
 use lib.Bits.{bit_xor, xor_assoc, xor_zero_r}
 use Rattle.std.proofs.lemmas.Simd.{get_or-zip2}
-use Rattle.std.proofs.lemmas.List.{get_or-map, get_or-replicate, drop_more, drop_all}
+use Rattle.std.proofs.lemmas.List.{get_or-map, get_or-replicate, get_or_append_left, drop_at}
 use Rattle.std.specs.List.{flat_map, AllByRecursion}
 use Rattle.cipher.specs.Block.{Byte, Bytes}
 use Rattle.khazad.specs.Khazad.{mul, H, scaled, product, θ}
 use Rattle.khazad.specs.Layers.{Wide, H-wide, scaled-bytes, product-bytes}
-use Rattle.cipher.proofs.Computed.{agree_pairs}
 
 -- the bytes of a row, each times what stands in column j of its row of a matrix, added up
 unfoldable pub dot : List ℕ → List (List ℕ) → ℕ → ℕ
@@ -29,18 +28,36 @@ pub θ-at : (a : List ℕ) → Bytes 8 a → (j : ℕ) → j < 8 → get_or (θ 
 unfolding θ
 θ-at a h j l = product_at a h.1 H H-wide j l
 
--- one byte of the row: `t` is the sum with that byte's share
-pub one_byte_more : (a : List ℕ) (rows : List (List ℕ)) (i j s : ℕ) → i < length a → i < length rows
-    → bit_xor (bit_xor s (mul (get_or (get_or rows i []) j 0) (get_or a i 0))) (dot (drop (i + 1) a) (drop (i + 1) rows) j) ≡ bit_xor s (dot (drop i a) (drop i rows) j)
-unfolding dot
-one_byte_more a rows i j s ha hr =
-    xor_assoc s (mul (get_or (get_or rows i []) j 0) (get_or a i 0)) (dot (drop (i + 1) a) (drop (i + 1) rows) j)
-    ∙ ap (bit_xor s) (sym (ap₂ (λ xs rs. dot xs rs j) (drop_more a i 0 ha) (drop_more rows i [] hr)))
+-- ---- the matrix as the code has it, its rows one after the other
 
-pub no_byte_more : (a : List ℕ) (rows : List (List ℕ)) (i j s : ℕ) → length a ≤ i → bit_xor s (dot (drop i a) (drop i rows) j) ≡ s
-unfolding dot
-no_byte_more a rows i j s h = ap (λ xs. bit_xor s (dot xs (drop i rows) j)) (drop_all i a h) ∙ xor_zero_r s
+-- the same sum where the rows stand one after the other
+unfoldable pub dot_flat : List ℕ → List ℕ → ℕ → ℕ
+dot_flat [] entries j = 0
+dot_flat (x ∷ xs) entries j = bit_xor (mul (get_or entries j 0) x) (dot_flat xs (drop 8 entries) j)
 
--- H as the code has it, its rows one after the other
-pub H-entry : (i j : ℕ) → i < 8 → j < 8 → get_or (flat_map (λ row. row) H) (8 * i + j) 0 ≡ get_or (get_or H i []) j 0
-H-entry = agree_pairs 8 8 (λ i j. get_or (flat_map (λ row. row) H) (8 * i + j) 0) (λ i j. get_or (get_or H i []) j 0) tt
+dot-flat : (xs : List ℕ) (rows : List (List ℕ)) → Wide rows → length xs ≡ length rows → (j : ℕ) → j < 8 → dot xs rows j ≡ dot_flat xs (flat_map (λ row. row) rows) j
+unfolding dot dot_flat
+dot-flat [] rows w h j l = refl
+dot-flat (x ∷ xs) [] w h j l = absurd (omega arith)
+dot-flat (x ∷ xs) (row ∷ rows) w h j l =
+    let others = flat_map (λ (row : List ℕ). row) rows in
+    let within : j < length row = omega (arith, w.0) in
+    ap₂ (λ e rest. bit_xor (mul e x) rest) (sym (get_or_append_left row others 0 j within))
+    (dot-flat xs rows w.1 (omega arith) j l ∙ ap (λ es. dot_flat xs es j) (sym (drop_at row others 8 w.0)))
+
+pub θ-flat : (a : List ℕ) → Bytes 8 a → (j : ℕ) → j < 8 → dot_flat a (flat_map (λ row. row) H) j ≡ get_or (θ a) j 0
+θ-flat a h j l = sym (θ-at a h j l ∙ dot-flat a H H-wide h.0 j l)
+
+-- one byte of the row: its share is added, and the sum goes on over what follows the row
+pub one_byte_more : (xs row entries : List ℕ) (x j s : ℕ) → length row ≡ 8 → j < 8
+    → bit_xor (bit_xor s (mul (get_or row j 0) x)) (dot_flat xs entries j) ≡ bit_xor s (dot_flat (x ∷ xs) (row ++ entries) j)
+unfolding dot_flat
+one_byte_more xs row entries x j s eight l =
+    let within : j < length row = omega arith in
+    xor_assoc s (mul (get_or row j 0) x) (dot_flat xs entries j)
+    ∙ ap₂ (λ e es. bit_xor s (bit_xor (mul e x) (dot_flat xs es j))) (sym (get_or_append_left row entries 0 j within)) (sym (drop_at row entries 8 eight))
+
+pub no_byte_more : (xs entries : List ℕ) (j s : ℕ) → length xs ≡ 0 → bit_xor s (dot_flat xs entries j) ≡ s
+unfolding dot_flat
+no_byte_more [] entries j s h = xor_zero_r s
+no_byte_more (x ∷ xs) entries j s h = absurd (omega arith)

@@ -1,2 +1,4 @@
 pub mod Columns
-pub mod Running
+pub mod Made
+pub mod Schedules
+pub mod Rounds

@@ -1,4 +1,5 @@
 pub mod Khazad
+pub mod Blocks
 pub mod Undo
 pub mod Layers
 pub mod Boxes

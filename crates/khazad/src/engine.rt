@@ -1,39 +1,41 @@
-// The field engine of Khazad, as a block cipher.
+// Khazad as a block cipher, over every way to work out its layers.
 
-ghost use Rattle.std.specs.Prelude.{◌≡◌, ℕ, ◌<◌, [], map, length, slice_index, slice_index_or};
-ghost use Rattle.std.specs.List.{range_with_len};
+ghost use Rattle.std.specs.Prelude.{◌≡◌, ℕ, ◌<◌, length, slice_index};
 ghost use Rattle.khazad.specs.Khazad.{K, inverse, α, enciphered as khazad_enciphered, deciphered as khazad_deciphered};
+ghost use Rattle.khazad.specs.Blocks.{nine_blocks, on_blocks, rows_of};
 ghost use Rattle.cipher.proofs.Rows.{bytes_by_place};
 ghost use Rattle.khazad.specs.Undo.{khazad_lawful};
 
 use crate::keys::{inverse_keys, round_keys};
-use crate::layer::{add, gamma, theta};
-use cipher::{Cipher, block_of, bytes_of};
+use crate::layers::Layers;
+use cipher::Cipher;
+use std::marker::PhantomData;
 
-// A prepared key: its bytes, and its round keys for either way, worked out once.
+// A prepared key: its bytes, and its round keys for either way as blocks, worked out once. `L` works out the layers.
 #[derive(Drop)]
-pub struct FieldKhazad {
+pub struct Khazad<L> {
     key: [u8; 16],
-    forward: [[u8; 8]; 9],
-    backward: [[u8; 8]; 9],
+    forward: [u64; 9],
+    backward: [u64; 9],
+    layers: PhantomData<L>,
     ghost key_has_sixteen: { length key ≡ 16 },
     ghost key_is_bytes: { (i : ℕ) → i < 16 → slice_index key i < 256 },
-    ghost forward_is_of_key: { forward ≡ map (K key) (range_with_len 0 9) },
-    ghost backward_is_of_key: { backward ≡ map (inverse (K key)) (range_with_len 0 9) },
+    ghost forward_is_of_key: { forward ≡ nine_blocks (K key) },
+    ghost backward_is_of_key: { backward ≡ nine_blocks (inverse (K key)) },
 }
 
 // Eight rounds under nine round keys, the last with no θ.
-fn run(keys: &[[u8; 8]; 9], a: [u8; 8]) -> [u8; 8]
-    ensures { result ≡ α (λ n. slice_index_or keys.now n []) a }
+fn run<L: Layers>(keys: &[u64; 9], block: u64) -> u64
+    ensures { result ≡ on_blocks (α (rows_of keys.now)) block }
 {
-    let mut state = add(a, keys[0]);
-    for r in 1..8 {
-        state = add(theta(gamma(state)), keys[r]);
+    let mut state = block ^ keys[0];
+    for key in &keys[1..8] {
+        state = L::theta_gamma(state) ^ *key;
     }
-    add(gamma(state), keys[8])
+    L::gamma(state) ^ keys[8]
 }
 
-impl Cipher for FieldKhazad {
+impl<L: Layers> Cipher for Khazad<L> {
     ghost enciphered = { khazad_enciphered };
 
     ghost deciphered = { khazad_deciphered };
@@ -44,21 +46,22 @@ impl Cipher for FieldKhazad {
 
     ghost lawful = { khazad_lawful };
 
-    fn prepare(bytes: [u8; 16]) -> FieldKhazad {
-        let forward = round_keys(bytes);
-        let backward = inverse_keys(&forward);
-        FieldKhazad {
+    fn prepare(bytes: [u8; 16]) -> Khazad<L> {
+        let forward = round_keys::<L>(bytes);
+        let backward = inverse_keys::<L>(&forward);
+        Khazad {
             key: bytes,
             forward,
             backward,
+            layers: PhantomData,
         }
     }
 
     fn encipher(&self, block: u64) -> u64 {
-        block_of(run(&self.forward, bytes_of(block)))
+        run::<L>(&self.forward, block)
     }
 
     fn decipher(&self, block: u64) -> u64 {
-        block_of(run(&self.backward, bytes_of(block)))
+        run::<L>(&self.backward, block)
     }
 }

@@ -1,75 +1,64 @@
-// The round keys of a key, for either way.
+// The round keys of a key, for either way, as blocks.
 
-ghost use Rattle.std.specs.Prelude.{◌≡◌, ◌<◌, [], map, take, drop, slice_index_or};
-ghost use Rattle.std.specs.List.{range_with_len};
-ghost use Rattle.khazad.specs.Khazad.{c, K, inverse};
+ghost use Rattle.std.specs.Prelude.{◌≡◌, ◌<◌};
+ghost use Rattle.cipher.specs.Block.{be_bytes, be_number, ◌⊕◌};
+ghost use Rattle.khazad.specs.Khazad.{γ, θ, c, K, inverse};
+ghost use Rattle.khazad.specs.Blocks.{nine_blocks, rows_of};
 
-use crate::layer::{add, gamma, theta};
-use crate::sbox::substitute;
+use crate::layers::Layers;
+use cipher::block_at;
+use std::array;
 
 // The number of the last round.
 const LAST: usize = 8;
 
-// c(r), the constant of round r.
-fn constant(r: usize) -> [u8; 8]
+// c(r), the constant of round r: γ of the bytes 8r to 8r + 7.
+fn constant<L: Layers>(r: usize) -> u64
     requires { r < 9 }
-    ensures { result ≡ c r }
+    ensures { result ≡ be_number (c r) }
 {
-    let mut out = [0; 8];
-    for i in 0..8 {
-        out[i] = substitute((8 * r + i) as u8);
-    }
-    out
+    L::gamma(0x0001_0203_0405_0607 + r as u64 * 0x0808_0808_0808_0808)
 }
 
-// The two halves of a key, K(-2) and K(-1).
-fn halves(key: [u8; 16]) -> ([u8; 8], [u8; 8])
-    ensures first { result.0 ≡ take 8 key }
-    ensures second { result.1 ≡ drop 8 key }
+// K(r), from the two before it.
+fn next_key<L: Layers>(r: usize, before: u64, last: u64) -> u64
+    requires { r < 9 }
+    ensures { result ≡ be_number (c r ⊕ θ (γ (be_bytes 8 last)) ⊕ be_bytes 8 before) }
 {
-    let mut first = [0; 8];
-    let mut second = [0; 8];
-    first.copy_from_slice(&key[0..8]);
-    second.copy_from_slice(&key[8..16]);
-    (first, second)
+    constant::<L>(r) ^ L::theta_gamma(last) ^ before
 }
 
 // K(0) to K(8).
-pub fn round_keys(key: [u8; 16]) -> [[u8; 8]; 9]
-    ensures { result ≡ map (K key) (range_with_len 0 9) }
+pub fn round_keys<L: Layers>(key: [u8; 16]) -> [u64; 9]
+    ensures { result ≡ nine_blocks (K key) }
 {
-    let (mut before, mut last) = halves(key);
-    let mut keys = [[0; 8]; 9];
-    for r in 0..9 {
-        let next = add(add(constant(r), theta(gamma(last))), before);
-        keys[r] = next;
+    let mut before = block_at(&key, 0);
+    let mut last = block_at(&key, 8);
+    array::from_fn(move |r|
+        requires { r < 9 }
+    {
+        let next = next_key::<L>(r, before, last);
         before = last;
         last = next;
-    }
-    keys
+        next
+    })
 }
 
 // Round key r of the way back.
-fn inverse_key(keys: &[[u8; 8]; 9], r: usize) -> [u8; 8]
+fn inverse_key<L: Layers>(keys: &[u64; 9], r: usize) -> u64
     requires { r < 9 }
-    ensures { result ≡ inverse (λ n. slice_index_or keys.now n []) r }
+    ensures { result ≡ be_number (inverse (rows_of keys.now) r) }
 {
-    if r == 0 {
-        keys[LAST]
-    } else if r == LAST {
-        keys[0]
-    } else {
-        theta(keys[LAST - r])
+    match r {
+        0 => keys[LAST],
+        LAST => keys[0],
+        _ => L::theta(keys[LAST - r]),
     }
 }
 
 // The nine round keys of the way back.
-pub fn inverse_keys(keys: &[[u8; 8]; 9]) -> [[u8; 8]; 9]
-    ensures { result ≡ map (inverse (λ n. slice_index_or keys.now n [])) (range_with_len 0 9) }
+pub fn inverse_keys<L: Layers>(keys: &[u64; 9]) -> [u64; 9]
+    ensures { result ≡ nine_blocks (inverse (rows_of keys.now)) }
 {
-    let mut out = *keys;
-    for r in 0..9 {
-        out[r] = inverse_key(keys, r);
-    }
-    out
+    array::from_fn(|r| inverse_key::<L>(keys, r))
 }

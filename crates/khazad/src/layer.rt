@@ -1,11 +1,13 @@
-// The layers of a round, on eight bytes by value: γ, θ and ⊕.
+// The layers of a round by products in the field, on eight bytes by value.
 
 ghost use Rattle.std.specs.Prelude.{◌≡◌, ◌<◌, slice_index};
-ghost use Rattle.cipher.specs.Block.{◌⊕◌};
 ghost use Rattle.khazad.specs.Khazad.{γ, θ};
 
 use crate::field::product;
+use crate::layers::Layers;
 use crate::sbox::substitute;
+use cipher::{block_of, bytes_of};
+use std::array;
 
 // The matrix of θ, row by row: at row i and column j the entry i ⊕ j of the first row.
 const H: [u8; 64] = [
@@ -16,14 +18,10 @@ const H: [u8; 64] = [
 ];
 
 // S at every byte.
-pub fn gamma(a: [u8; 8]) -> [u8; 8]
+fn gamma(a: [u8; 8]) -> [u8; 8]
     ensures { result ≡ γ a }
 {
-    let mut out = a;
-    for i in 0..8 {
-        out[i] = substitute(a[i]);
-    }
-    out
+    a.map(substitute)
 }
 
 // Byte j of the product by H: the bytes of the row times column j.
@@ -32,8 +30,8 @@ fn column(a: [u8; 8], j: usize) -> u8
     ensures { result ≡ slice_index (θ a) j }
 {
     let mut sum = 0;
-    for i in 0..8 {
-        sum ^= product(H[8 * i + j], a[i]);
+    for (row, x) in H.chunks_exact(8).zip(&a) {
+        sum ^= product(row[j], *x);
     }
     sum
 }
@@ -42,20 +40,22 @@ fn column(a: [u8; 8], j: usize) -> u8
 pub fn theta(a: [u8; 8]) -> [u8; 8]
     ensures { result ≡ θ a }
 {
-    let mut out = a;
-    for j in 0..8 {
-        out[j] = column(a, j);
-    }
-    out
+    array::from_fn(|j| column(a, j))
 }
 
-// Exclusive or, byte by byte.
-pub fn add(a: [u8; 8], b: [u8; 8]) -> [u8; 8]
-    ensures { result ≡ a ⊕ b }
-{
-    let mut out = a;
-    for i in 0..8 {
-        out[i] = a[i] ^ b[i];
+// The layers worked out in the field.
+pub struct ByField;
+
+impl Layers for ByField {
+    fn gamma(block: u64) -> u64 {
+        block_of(gamma(bytes_of(block)))
     }
-    out
+
+    fn theta(block: u64) -> u64 {
+        block_of(theta(bytes_of(block)))
+    }
+
+    fn theta_gamma(block: u64) -> u64 {
+        block_of(theta(gamma(bytes_of(block))))
+    }
 }

@@ -1,12 +1,19 @@
-// Khazad by field arithmetic: the box S worked out from its mini-boxes, θ by products in the field.
+// Khazad: an engine over every way to work out the layers, and the way by field arithmetic, in which the box S is worked
+// out from its mini-boxes and θ by products in the field.
 #![tactic(auto)]
 
 mod engine;
 mod field;
 mod keys;
 mod layer;
+mod layers;
 mod sbox;
 #[cfg(test)]
 mod tests;
 
-pub use engine::FieldKhazad;
+pub use engine::Khazad;
+pub use layer::ByField;
+pub use layers::Layers;
+
+// Khazad by field arithmetic.
+pub type FieldKhazad = Khazad<ByField>;

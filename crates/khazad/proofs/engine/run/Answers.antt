@@ -1,18 +1,21 @@
-use Rattle.std.proofs.Common.{refl, arith}
+use Rattle.std.proofs.Common.{◌^◌, ◌<◌, ◌≡◌, get_or, refl, arith}
+use lib.Bits.{bit_xor, xor_lt}
 use Rattle.khazad.specs.Khazad.{rounds}
-use Rattle.khazad.proofs.Running.{by_number, next_round, last_round}
+use Rattle.khazad.proofs.Rounds.{one_round_more, all_rounds}
 use Rattle.khazad.proofs.engine.run.Goals as goal
 
-pub loop-r-init : goal.loop-r-init
+pub loop-key-init : goal.loop-key-init
 unfolding rounds
-loop-r-init c = refl
+loop-key-init g c = refl
 
-pub loop-r-preserved : goal.loop-r-preserved
-loop-r-preserved c =
-    next_round (by_number c.args.keys.now) c.add-state.result c.loop-r.r c.loop-r.state c.gamma.result c.theta.result c.add-state-in-loop-r.result
-    c.loop-r.auto.r c.loop-r.invariant c.gamma.ensures c.theta.ensures c.add-state-in-loop-r.ensures
+pub loop-key-preserved : goal.loop-key-preserved
+loop-key-preserved g c =
+    one_round_more c.args.keys.now (bit_xor c.args.block (get_or c.args.keys.now 0 0)) c.loop-key.key-index c.loop-key.state c.theta_gamma.result
+    (omega arith) c.loop-key.invariant c.theta_gamma.ensures
 
 pub returns : goal.returns
-returns c =
-    last_round (by_number c.args.keys.now) c.args.a c.loop-r.r c.add-state.result c.loop-r.state c.gamma-2.result c.add.result
-    (omega (arith, c.loop-r.auto)) c.add-state.ensures c.loop-r.invariant c.gamma-2.ensures c.add.ensures
+returns g c =
+    let last : get_or c.args.keys.now 8 0 < 2 ^ 64 = omega arith in
+    let all : c.loop-key.key-index ≡ 7 = omega arith in
+    all_rounds c.args.keys.now c.args.block c.loop-key.key-index c.loop-key.state c.gamma.result
+    all c.loop-key.invariant c.gamma.ensures (xor_lt 64 c.gamma.result (get_or c.args.keys.now 8 0) c.gamma.type_inv last)

@@ -1,6 +1,8 @@
-use Rattle.std.proofs.Common.{◌≡◌, ◌-◌, [], get_or}
+use Rattle.std.proofs.Common.{◌≡◌}
+use Rattle.cipher.specs.Block.{be_bytes}
 use Rattle.khazad.specs.Khazad.{rounds}
+use Rattle.khazad.specs.Blocks.{rows_of}
 use Rattle.khazad.proofs.engine.run.Given as goal
 
-abbrev pub invariant-loop-r : goal.invariant-loop-r
-invariant-loop-r l = l.state ≡ rounds (λ n. get_or l.keys n []) (l.r - 1) l.initial.state
+abbrev pub invariant-loop-key : goal.invariant-loop-key
+invariant-loop-key g l = be_bytes 8 l.state ≡ rounds (rows_of l.keys) l.key-index (be_bytes 8 l.initial.state)

@@ -1,15 +1,14 @@
-use Rattle.std.proofs.Common.{rules}
+use Rattle.std.proofs.Common.{arith, rules}
 use Rattle.khazad.specs.Khazad.{inverse}
+use Rattle.khazad.proofs.Schedules.{first_backward, last_backward}
 use Rattle.khazad.proofs.keys.inverse_key.Goals as goal
 
-pub returns-then-r-eq0 : goal.returns-then-r-eq0
-unfolding inverse
-returns-then-r-eq0 c = search rules
+pub returns-in-0 : goal.returns-in-0
+returns-in-0 g c = let first = first_backward c.args.keys.now (omega arith) in search rules
 
-pub returns-then-r-eq-LAST : goal.returns-then-r-eq-LAST
-unfolding inverse
-returns-then-r-eq-LAST c = search rules
+pub returns-in-8 : goal.returns-in-8
+returns-in-8 g c = let last = last_backward c.args.keys.now (omega arith) in search rules
 
-pub returns-else-r-eq-LAST : goal.returns-else-r-eq-LAST
+pub returns-in_default : goal.returns-in_default
 unfolding inverse
-returns-else-r-eq-LAST c = search rules
+returns-in_default g c = search rules

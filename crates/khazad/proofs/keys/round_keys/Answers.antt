@@ -1,37 +1,22 @@
-use Rattle.std.proofs.Common.{◌≡◌, ◌<◌, [], ◌++◌, length, get_or, set, sym, refl, ap, ◌∙◌, ap₂, add-one, arith}
-use Rattle.std.proofs.lemmas.List.FromFn.{fill_by_all}
-use Rattle.std.proofs.lemmas.List.Edits.{fill_by_more}
-use Rattle.std.proofs.lemmas.List.{length-set, take-append-drop}
-use Rattle.cipher.specs.Block.{◌⊕◌}
-use Rattle.cipher.proofs.Rows.{of_array, take-bytes}
-use Rattle.khazad.specs.Khazad.{c, θ, K, K_from_minus_two}
-use Rattle.khazad.specs.Schedule.{K-next, K-counted, K-minus_two, K-minus_one}
+use Rattle.std.proofs.Common.{◌≡◌, suc, sym, ap, add-one, ◌∙◌, rules}
+use Rattle.cipher.specs.Block.{be_bytes, be_number, ◌⊕◌}
+use Rattle.cipher.proofs.Rows.{of_array}
+use Rattle.khazad.specs.Khazad.{γ, θ, c, K, K_from_minus_two}
+use Rattle.khazad.proofs.Made.{made_by_calls}
+use Rattle.khazad.proofs.Schedules.{first_half, second_half, next_is, next_counted}
 use Rattle.khazad.proofs.keys.round_keys.Goals as goal
 
-pub loop-r-init : goal.loop-r-init
-loop-r-init c =
-    let h = take-bytes 8 8 c.args.key (of_array _ _ c.well_formed.0) in
-    let first : length c.halves.result.0 ≡ 8 = ap length c.halves.ensures.first ∙ h.0 in
-    (refl, K-minus_two c.halves.result.0 c.halves.result.1 first, K-minus_one c.halves.result.0 c.halves.result.1 first, λ k l. absurd (omega arith))
-
-pub loop-r-preserved : goal.loop-r-preserved
-loop-r-preserved c =
-    let key = c.halves.result.0 ++ c.halves.result.1 in
-    let r = c.loop-r.r in
-    let keys = c.loop-r.keys in
-    let inv = c.loop-r.invariant in
-    let within : r < length keys = omega (arith, inv.0) in
-    let next : c.add-next.result ≡ K key r =
-    K-next key c.loop-r.before c.loop-r.last c.add-next.result r inv.1 inv.2
-    (c.add-next.ensures ∙ ap (λ z. z ⊕ c.loop-r.before) (c.add.ensures ∙ ap₂ ◌⊕◌ c.constant.ensures (c.theta.ensures ∙ ap θ c.gamma.ensures))) in (
-      length-set keys r c.add-next.result ∙ inv.0,
-      inv.2 ∙ ap (K_from_minus_two key) (sym (add-one r)),
-      next ∙ K-counted key r,
-      λ k l. ap (λ v. get_or (set keys r v) k []) next ∙ fill_by_more (K key) keys r [] within inv.3 k l,
-    )
-
+-- what the closure holds before the call at r is `before`, K(r − 2), and `last`, K(r − 1)
 pub returns : goal.returns
-returns c =
-    let key : c.halves.result.0 ++ c.halves.result.1 ≡ c.args.key =
-    ap₂ ◌++◌ c.halves.ensures.first c.halves.ensures.second ∙ take-append-drop 8 c.args.key in
-    fill_by_all (K c.args.key) c.loop-r.keys 9 [] c.loop-r.invariant.0 (λ k l. c.loop-r.invariant.3 k (omega arith) ∙ ap (λ q. K q k) key)
+returns g x =
+    let key = x.args.key in
+    let h = of_array _ _ x.well_formed.0 in
+    made_by_calls _ (λ r f. (be_bytes 8 f.0 ≡ K_from_minus_two key r) × (be_bytes 8 f.1 ≡ K_from_minus_two key (suc r))) (λ r. be_number (K key r)) 9 x.from_fn.result
+    (λ r f y q l p called.
+    let before = f.0 in
+    let last = f.1 in
+    let next : y ≡ be_number (c r ⊕ θ (γ (be_bytes 8 last)) ⊕ be_bytes 8 before) = search rules in
+    let moved : q.0 ≡ last = search rules in
+    let kept : q.1 ≡ y = search rules in
+    (next_is key h r before last y l p.0 p.1 next, (ap (be_bytes 8) moved ∙ p.1 ∙ ap (K_from_minus_two key) (sym (add-one r)), ap (be_bytes 8) kept ∙ next_counted key h r before last y l p.0 p.1 next)))
+    _ 0 (first_half key h x.block_at-before.result x.block_at-before.ensures, second_half key h x.block_at-last.result x.block_at-last.ensures) x.from_fn.ensures.items

@@ -1,11 +1,9 @@
-use Rattle.std.proofs.Common.{sym, ◌∙◌, arith}
-use Rattle.cipher.proofs.Rows.{of_array, same_places}
-use Rattle.khazad.specs.Khazad.{γ}
-use Rattle.khazad.specs.Layers.{γ-at, γ-bytes}
+use Rattle.std.proofs.Common.{rules, refl}
+use Rattle.cipher.proofs.Rows.{of_array}
+use Rattle.khazad.specs.Khazad.{S, γ}
+use Rattle.khazad.proofs.Made.{mapped_by_calls}
 use Rattle.khazad.proofs.layer.gamma.Goals as goal
 
 pub returns : goal.returns
-returns c =
-    let a = c.args.a in
-    let h = of_array _ _ c.well_formed.0 in
-    same_places 8 c.loop-i.out (γ a) c.loop-i.invariant.0 (γ-bytes 8 a h).0 (λ k l. c.loop-i.invariant.1 k (omega arith) ∙ sym (γ-at 8 a h.0 k l))
+unfolding γ
+returns c = mapped_by_calls _ S c.args.a c.map.result _ (λ x y q called. (search rules, search rules)) 8 (of_array _ _ c.well_formed.0).0 0 0 c.map.ensures.items

@@ -1,10 +1,14 @@
-use Rattle.std.proofs.Common.{arith}
-use Rattle.cipher.proofs.Rows.{of_array, same_places}
+use Rattle.std.proofs.Common.{◌≡◌, get_or, sym, ◌∙◌, refl, rules}
+use Rattle.std.proofs.lemmas.List.FromFn.{fill_by_all}
+use Rattle.cipher.proofs.Rows.{of_array}
 use Rattle.khazad.specs.Khazad.{θ}
 use Rattle.khazad.specs.Layers.{θ-bytes}
+use Rattle.khazad.proofs.Made.{made_by_calls}
 use Rattle.khazad.proofs.layer.theta.Goals as goal
 
 pub returns : goal.returns
 returns c =
     let a = c.args.a in
-    same_places 8 c.loop-j.out (θ a) c.loop-j.invariant.0 (θ-bytes a (of_array _ _ c.well_formed.0)).0 (λ k l. c.loop-j.invariant.1 k (omega arith))
+    made_by_calls _ (λ j f. f.0.now ≡ a) (λ j. get_or (θ a) j 0) 8 c.from_fn.result
+    (λ j f y q l p called. (search rules, search rules)) _ 0 refl c.from_fn.ensures.items
+    ∙ sym (fill_by_all (λ j. get_or (θ a) j 0) (θ a) 8 0 (θ-bytes a (of_array _ _ c.well_formed.0)).0 (λ j l. refl))

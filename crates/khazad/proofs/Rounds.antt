@@ -1,32 +1,43 @@
 -- The rounds on blocks, and the cipher under the round keys that an engine holds.
-use Rattle.std.proofs.Common.{◌≡◌, ℕ, ◌+◌, ◌-◌, ◌<◌, ◌≤◌, List, length, get_or, refl, ap, ◌∙◌, arith}
+use Rattle.std.proofs.Common.{◌≡◌, ℕ, suc, ◌+◌, ◌<◌, ◌≤◌, List, length, get_or, sym, refl, ap, ◌∙◌, ap₂, add-one, arith}
 use lib.Bits.{bit_xor}
+use Rattle.std.proofs.lemmas.List.Edits.{get_or-between}
 use Rattle.std.proofs.lemmas.List.FromFn.{fill_by_all, get_or-map-range_with_len, length-map-range_with_len}
-use Rattle.cipher.specs.Block.{Key, Block, be_bytes, be_number}
+use Rattle.std.specs.List.{between}
+use Rattle.cipher.specs.Block.{Key, Block, be_bytes, be_number, ◌⊕◌}
 use Rattle.cipher.proofs.Numbers.{be_bytes-⊕, block_bytes, bytes_of_block}
-use Rattle.khazad.specs.Khazad.{γ, θ, K, rounds, α, inverse, encipher, decipher, enciphered, deciphered}
+use Rattle.khazad.specs.Khazad.{γ, θ, ρ, K, rounds, α, inverse, encipher, decipher, enciphered, deciphered}
 use Rattle.khazad.specs.Layers.{γ-bytes}
-use Rattle.khazad.proofs.Running.{next_round, last_round}
 use Rattle.khazad.specs.Schedule.{K-bytes}
 use Rattle.khazad.specs.Undo.{Nine, α-same, inverse-nine, inverse-same}
-use Rattle.khazad_lookup.specs.Table.{nine_blocks, on_blocks, rows_of}
-use Rattle.khazad_lookup.proofs.Schedules.{mixed_bytes, block_with_bytes}
+use Rattle.khazad.specs.Blocks.{nine_blocks, on_blocks, rows_of}
+use Rattle.khazad.proofs.Schedules.{mixed_bytes, block_with_bytes}
 
 -- ---- the rounds
 
 module _ (keys : List ℕ) where
-  pub one_round_more : (start r state mixed : ℕ) → 1 ≤ r → be_bytes 8 state ≡ rounds (rows_of keys) (r - 1) (be_bytes 8 start)
-      → mixed ≡ on_blocks (λ a. θ (γ a)) state → be_bytes 8 (bit_xor mixed (get_or keys r 0)) ≡ rounds (rows_of keys) (r + 1 - 1) (be_bytes 8 start)
-  one_round_more start r state mixed l hs hm =
-      next_round (rows_of keys) (be_bytes 8 start) r (be_bytes 8 state) (γ (be_bytes 8 state)) (be_bytes 8 mixed) (be_bytes 8 (bit_xor mixed (get_or keys r 0)))
-      l hs refl (ap (be_bytes 8) hm ∙ mixed_bytes state) (be_bytes-⊕ 8 mixed (get_or keys r 0))
+  -- after i of the rounds that have θ, one more, under the next of the keys between the first and the last
+  pub one_round_more : (start i state mixed : ℕ) → i < 7 → be_bytes 8 state ≡ rounds (rows_of keys) i (be_bytes 8 start)
+      → mixed ≡ on_blocks (λ a. θ (γ a)) state → be_bytes 8 (bit_xor mixed (get_or (between 1 8 keys) i 0)) ≡ rounds (rows_of keys) (i + 1) (be_bytes 8 start)
+  unfolding rounds ρ
+  one_round_more start i state mixed l hs hm =
+      let within : 1 + i < 8 = omega arith in
+      let number : 1 + i ≡ suc i = omega arith in
+      let next : rounds (rows_of keys) (suc i) (be_bytes 8 start) ≡ rounds (rows_of keys) (i + 1) (be_bytes 8 start) = ap (λ n. rounds (rows_of keys) n (be_bytes 8 start)) (sym (add-one i)) in
+      let key : get_or (between 1 8 keys) i 0 ≡ get_or keys (suc i) 0 = get_or-between keys 1 8 i 0 within ∙ ap (λ n. get_or keys n 0) number in
+      be_bytes-⊕ 8 mixed (get_or (between 1 8 keys) i 0)
+      ∙ ap₂ ◌⊕◌ (ap (be_bytes 8) hm ∙ mixed_bytes state ∙ ap (λ a. θ (γ a)) hs) (ap (be_bytes 8) key)
+      ∙ next
 
-  pub all_rounds : (block r state boxed : ℕ) → r ≡ 8 → be_bytes 8 state ≡ rounds (rows_of keys) (r - 1) (be_bytes 8 (bit_xor block (get_or keys 0 0)))
+  pub all_rounds : (block i state boxed : ℕ) → i ≡ 7 → be_bytes 8 state ≡ rounds (rows_of keys) i (be_bytes 8 (bit_xor block (get_or keys 0 0)))
       → boxed ≡ on_blocks γ state → Block (bit_xor boxed (get_or keys 8 0)) → bit_xor boxed (get_or keys 8 0) ≡ on_blocks (α (rows_of keys)) block
-  all_rounds block r state boxed e hs hb h =
+  unfolding α
+  all_rounds block i state boxed e hs hb h =
       block_with_bytes (bit_xor boxed (get_or keys 8 0)) (α (rows_of keys) (be_bytes 8 block)) h
-      (last_round (rows_of keys) (be_bytes 8 block) r (be_bytes 8 (bit_xor block (get_or keys 0 0))) (be_bytes 8 state) (be_bytes 8 boxed) (be_bytes 8 (bit_xor boxed (get_or keys 8 0)))
-      e (be_bytes-⊕ 8 block (get_or keys 0 0)) hs (ap (be_bytes 8) hb ∙ bytes_of_block (γ (be_bytes 8 state)) (γ-bytes 8 (be_bytes 8 state) (block_bytes state))) (be_bytes-⊕ 8 boxed (get_or keys 8 0)))
+      (be_bytes-⊕ 8 boxed (get_or keys 8 0)
+      ∙ ap (λ a. a ⊕ rows_of keys 8)
+      (ap (be_bytes 8) hb ∙ bytes_of_block (γ (be_bytes 8 state)) (γ-bytes 8 (be_bytes 8 state) (block_bytes state))
+      ∙ ap γ (hs ∙ ap₂ (rounds (rows_of keys)) e (be_bytes-⊕ 8 block (get_or keys 0 0)))))
 
 -- ---- nine round keys made by a rule
 

@@ -1,0 +1,18 @@
+// What the layers of a round mean, however they are worked out.
+
+ghost use Rattle.std.specs.Prelude.{◌≡◌};
+ghost use Rattle.khazad.specs.Khazad.{γ, θ};
+ghost use Rattle.khazad.specs.Blocks.{on_blocks};
+
+// A way to work out the layers of a round, on blocks. All ways have one meaning, so an engine is written once for all.
+pub trait Layers {
+    fn gamma(block: u64) -> u64
+        ensures { result ≡ on_blocks γ block };
+
+    fn theta(block: u64) -> u64
+        ensures { result ≡ on_blocks θ block };
+
+    // γ, then θ.
+    fn theta_gamma(block: u64) -> u64
+        ensures { result ≡ on_blocks (λ a. θ (γ a)) block };
+}
