@@ -1,4 +1,2 @@
 pub mod Rule
 pub mod Sums
-pub mod Schedules
-pub mod Rounds

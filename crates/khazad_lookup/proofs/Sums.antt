@@ -9,7 +9,8 @@ use Rattle.cipher.proofs.Rows.{eight_places}
 use Rattle.khazad.specs.Khazad.{dbl, times, mul, S, γ, H, scaled, product, θ}
 use Rattle.khazad.specs.Boxes.{S-byte}
 use Rattle.khazad.specs.Layers.{Wide, H-wide, γ-bytes, γ-twice, scaled-bytes, product-bytes}
-use Rattle.khazad_lookup.specs.Table.{table_entry, on_blocks}
+use Rattle.khazad.specs.Blocks.{on_blocks}
+use Rattle.khazad_lookup.specs.Table.{table_entry}
 
 -- eight blocks, one for each byte of a row, added up as the code does
 abbrev pub eight_added : (ℕ → ℕ → ℕ) → List ℕ → ℕ

@@ -1,9 +1,0 @@
-use Rattle.std.proofs.Common.{◌∙◌}
-use Rattle.cipher.proofs.Rows.{bytes_by_place}
-use Rattle.khazad_lookup.proofs.Rounds.{runs_backward}
-use Rattle.khazad_lookup.proofs.engine.LookupKhazadCipher.decipher.Goals as goal
-
-pub returns : goal.returns
-returns c =
-    let s = c.args.self.now in
-    c.run.ensures ∙ runs_backward s.key (bytes_by_place 16 s.key s.key_has_sixteen s.key_is_bytes) s.backward s.backward_is_of_key c.args.block
