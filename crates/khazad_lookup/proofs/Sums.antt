@@ -1,6 +1,7 @@
 -- The layers γ and θ as sums of eight blocks, one for each byte.
-use Rattle.std.proofs.Common.{◌≡◌, ℕ, ◌-◌, ◌*◌, ◌%◌, ◌^◌, ◌<◌, List, [], ◌∷◌, length, get_or, replicate, sym, refl, ap, ◌∙◌}
-use lib.Bits.{bit_and, bit_xor, xor_assoc, xor_zero_r}
+use Rattle.std.proofs.Common.{◌≡◌, ℕ, ◌-◌, ◌*◌, ◌%◌, ◌^◌, ◌<◌, ◌≤◌, ◌+◌, drop, List, [], ◌∷◌, length, get_or, replicate, sym, refl, ap, ◌∙◌}
+use lib.Bits.{bit_and, bit_xor, xor_assoc, xor_zero_r, xor_zero_l}
+use Rattle.std.proofs.lemmas.List.{drop_more, drop_all}
 use Rattle.std.specs.List.{AllByRecursion}
 use Rattle.cipher.specs.Block.{Byte, Bytes, be_bytes, be_number}
 use Rattle.cipher.proofs.Computed.{agree_pairs}
@@ -10,18 +11,7 @@ use Rattle.khazad.specs.Khazad.{dbl, times, mul, S, γ, H, scaled, product, θ}
 use Rattle.khazad.specs.Boxes.{S-byte}
 use Rattle.khazad.specs.Layers.{Wide, H-wide, γ-bytes, γ-twice, scaled-bytes, product-bytes}
 use Rattle.khazad.specs.Blocks.{on_blocks}
-use Rattle.khazad_lookup.specs.Table.{table_entry}
-
--- eight blocks, one for each byte of a row, added up as the code does
-abbrev pub eight_added : (ℕ → ℕ → ℕ) → List ℕ → ℕ
-eight_added f a =
-    bit_xor
-    (bit_xor (bit_xor (bit_xor (bit_xor (bit_xor (bit_xor (f 0 (get_or a 0 0)) (f 1 (get_or a 1 0))) (f 2 (get_or a 2 0))) (f 3 (get_or a 3 0))) (f 4 (get_or a 4 0))) (f 5 (get_or a 5 0))) (f 6 (get_or a 6 0)))
-    (f 7 (get_or a 7 0))
-
--- from the last to the first
-regrouped : (a b c d e f g h : ℕ) → bit_xor a (bit_xor b (bit_xor c (bit_xor d (bit_xor e (bit_xor f (bit_xor g (bit_xor h 0))))))) ≡ bit_xor (bit_xor (bit_xor (bit_xor (bit_xor (bit_xor (bit_xor a b) c) d) e) f) g) h
-regrouped a b c d e f g h = sym (simp (xor_assoc, xor_zero_r))
+use Rattle.khazad_lookup.specs.Table.{table_entry, added}
 
 -- ---- γ, then θ
 
@@ -43,15 +33,9 @@ product-sum (x ∷ a) h (row ∷ rows) w =
     be_number-⊕ (scaled (S x) row) (product (γ a) rows) (scaled-bytes (S x) (S-byte x h.0) row w.0) (product-bytes (γ a) (γ-bytes (length a) a (refl, h.1)).1 rows w.1)
     ∙ ap (bit_xor (be_number (scaled (S x) row))) (product-sum a h.1 rows w.1)
 
-entries_in_order : (a : List ℕ) → length a ≡ 8 → boxed-sum a H ≡ eight_added table_entry a
-unfolding boxed-sum table_entry
-entries_in_order a h =
-    ap (λ xs. boxed-sum xs H) (eight_places a h)
-    ∙ regrouped (table_entry 0 (get_or a 0 0)) (table_entry 1 (get_or a 1 0)) (table_entry 2 (get_or a 2 0)) (table_entry 3 (get_or a 3 0)) (table_entry 4 (get_or a 4 0)) (table_entry 5 (get_or a 5 0)) (table_entry 6 (get_or a 6 0)) (table_entry 7 (get_or a 7 0))
-
-pub entries_add_up : (a : List ℕ) → Bytes 8 a → eight_added table_entry a ≡ be_number (θ (γ a))
-unfolding θ
-entries_add_up a h = sym (product-sum a h.1 H H-wide ∙ entries_in_order a h.0)
+pub entries_add_up : (a : List ℕ) → Bytes 8 a → added table_entry 0 a ≡ be_number (θ (γ a))
+unfolding θ boxed-sum added table_entry
+entries_add_up a h = ap (added table_entry 0) (eight_places a h.0) ∙ ap (λ xs. boxed-sum xs H) (sym (eight_places a h.0)) ∙ sym (product-sum a h.1 H H-wide)
 
 -- ---- γ alone
 
@@ -70,14 +54,11 @@ unfolding be_number placed_sum
 number_is_placed_sum [] h = refl
 number_is_placed_sum (x ∷ xs) h = number_first x xs h.1 ∙ ap (bit_xor (x * 256 ^ length xs)) (number_is_placed_sum xs h.1)
 
-boxes_in_order : (a : List ℕ) → length a ≡ 8 → placed_sum (γ a) ≡ eight_added (λ k x. S x * 256 ^ (7 - k)) a
-unfolding placed_sum γ
-boxes_in_order a h =
-    ap (λ xs. placed_sum (γ xs)) (eight_places a h)
-    ∙ regrouped (S (get_or a 0 0) * 256 ^ 7) (S (get_or a 1 0) * 256 ^ 6) (S (get_or a 2 0) * 256 ^ 5) (S (get_or a 3 0) * 256 ^ 4) (S (get_or a 4 0) * 256 ^ 3) (S (get_or a 5 0) * 256 ^ 2) (S (get_or a 6 0) * 256) (S (get_or a 7 0) * 1)
-
-pub boxes_add_up : (a : List ℕ) → Bytes 8 a → eight_added (λ k x. S x * 256 ^ (7 - k)) a ≡ be_number (γ a)
-boxes_add_up a h = sym (number_is_placed_sum (γ a) (γ-bytes 8 a h).1 ∙ boxes_in_order a h.0)
+pub boxes_add_up : (a : List ℕ) → Bytes 8 a → added (λ k x. S x * 256 ^ (7 - k)) 0 a ≡ be_number (γ a)
+unfolding placed_sum γ added
+boxes_add_up a h =
+    ap (added (λ k x. S x * 256 ^ (7 - k)) 0) (eight_places a h.0) ∙ ap (λ xs. placed_sum (γ xs)) (sym (eight_places a h.0))
+    ∙ sym (number_is_placed_sum (γ a) (γ-bytes 8 a h).1)
 
 -- ---- θ alone
 
@@ -86,3 +67,17 @@ pub γ-cancels : (b : ℕ) → on_blocks (λ a. θ (γ a)) (on_blocks γ b) ≡ 
     let a = be_bytes 8 b in
     let h = block_bytes b in
     ap (λ z. be_number (θ (γ z))) (bytes_of_block (γ a) (γ-bytes 8 a h)) ∙ ap (λ z. be_number (θ z)) (γ-twice a h.1)
+
+-- ---- adding up, byte by byte
+
+module _ (f : ℕ → ℕ → ℕ) (a : List ℕ) where
+  pub one_byte_more : (k s r : ℕ) → k < length a → r ≡ f k (get_or a k 0) → bit_xor (bit_xor s r) (added f (k + 1) (drop (k + 1) a)) ≡ bit_xor s (added f k (drop k a))
+  unfolding added
+  one_byte_more k s r l e =
+      ap (λ v. bit_xor (bit_xor s v) (added f (k + 1) (drop (k + 1) a))) e
+      ∙ xor_assoc s (f k (get_or a k 0)) (added f (k + 1) (drop (k + 1) a))
+      ∙ ap (λ xs. bit_xor s (added f k xs)) (sym (drop_more a k 0 l))
+
+  pub no_byte_more : (k s : ℕ) → length a ≤ k → bit_xor s (added f k (drop k a)) ≡ s
+  unfolding added
+  no_byte_more k s l = ap (λ xs. bit_xor s (added f k xs)) (drop_all k a l) ∙ xor_zero_r s

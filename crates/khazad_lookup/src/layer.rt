@@ -1,8 +1,9 @@
 // The layers of a round by the tables, on blocks.
 
-ghost use Rattle.std.specs.Prelude.{◌≡◌, ◌-◌, ◌*◌, ◌^◌, ◌<◌};
+ghost use Rattle.std.specs.Prelude.{◌≡◌, ◌-◌, ◌*◌, ◌^◌, ◌<◌, ℕ};
+ghost use Rattle.cipher.specs.Block.{be_bytes};
 ghost use Rattle.khazad.specs.Khazad.{S};
-ghost use Rattle.khazad_lookup.specs.Table.{table_entry};
+ghost use Rattle.khazad_lookup.specs.Table.{table_entry, added};
 
 use crate::tables::eight_tables;
 use cipher::bytes_of;
@@ -24,21 +25,26 @@ fn boxed_at(k: usize, x: u8) -> u64
     entry(k, x) & (0xFF << (56 - 8 * k))
 }
 
+// What a function gives of each byte of a block and its place, added up.
+fn added_up<F: Fn(usize, u8) -> u64>(block: u64, part: F) -> u64
+    requires { (k x : ℕ) → k < 8 → x < 256 → F.pre part k x }
+    ensures { (f : ℕ → ℕ → ℕ) → ((k x r : ℕ) → F.post part k x r → r ≡ f k x) → result ≡ added f 0 (be_bytes 8 block) }
+{
+    let a = bytes_of(block);
+    let mut sum = 0;
+    for (k, x) in a.iter().enumerate() {
+        sum ^= part(k, *x);
+    }
+    sum
+}
+
 // The layers worked out by the tables.
 pub struct ByTables;
 
 impl Layers for ByTables {
     // γ has the part of table k that is S, for each byte k.
     fn gamma(block: u64) -> u64 {
-        let a = bytes_of(block);
-        boxed_at(0, a[0])
-            ^ boxed_at(1, a[1])
-            ^ boxed_at(2, a[2])
-            ^ boxed_at(3, a[3])
-            ^ boxed_at(4, a[4])
-            ^ boxed_at(5, a[5])
-            ^ boxed_at(6, a[6])
-            ^ boxed_at(7, a[7])
+        added_up(block, boxed_at)
     }
 
     // γ undoes itself, so θ is γ and then what the tables do.
@@ -46,16 +52,8 @@ impl Layers for ByTables {
         Self::theta_gamma(Self::gamma(block))
     }
 
-    // Table k at byte k, for each k, added up.
+    // Table k at byte k, for each k.
     fn theta_gamma(block: u64) -> u64 {
-        let a = bytes_of(block);
-        entry(0, a[0])
-            ^ entry(1, a[1])
-            ^ entry(2, a[2])
-            ^ entry(3, a[3])
-            ^ entry(4, a[4])
-            ^ entry(5, a[5])
-            ^ entry(6, a[6])
-            ^ entry(7, a[7])
+        added_up(block, entry)
     }
 }
