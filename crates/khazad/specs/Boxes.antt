@@ -1,6 +1,6 @@
 -- The box S undoes itself and gives bytes, each by one computed test over all bytes.
 use Rattle.std.specs.Prelude.{◌≡◌, ℕ, ◌+◌, ◌*◌, ◌/◌, ◌%◌, ◌<◌, bit_and, bit_or}
-use Rattle.std.proofs.Common.{ap, ap₂, ◌∙◌}
+use Rattle.std.proofs.Common.{sym, ap, ap₂, ◌∙◌, subst}
 use Rattle.std.proofs.lemmas.Nat.{and_mask}
 use Rattle.khazad.specs.Khazad.{P, Q, boxed, exchanged, joined, S}
 use Rattle.cipher.proofs.Computed.{agree, agree_pairs, stay_below}
@@ -32,3 +32,24 @@ S-by_layers x a b d e f g n m ha hb hn hd he hm hf hg bf bg =
     let first : n ≡ exchanged (boxed P Q (x / 16, x % 16)) = hn ∙ ap₂ (λ p q. exchanged (p, q)) ha (hb ∙ ap Q (and_mask x 4)) in
     let second : m ≡ exchanged (boxed Q P (exchanged (boxed P Q (x / 16, x % 16)))) = hm ∙ ap₂ (λ p q. exchanged (p, q)) hd he ∙ ap (λ k. exchanged (boxed Q P k)) first in
     joined_is f g bf bg ∙ ap₂ (λ p q. joined (p, q)) hf hg ∙ ap (λ k. joined (boxed P Q k)) second
+
+-- ---- two nibbles at a time
+
+P-nibble : (n : ℕ) → n < 16 → P n < 16
+P-nibble = stay_below P 16 16 tt
+
+Q-nibble : (n : ℕ) → n < 16 → Q n < 16
+Q-nibble = stay_below Q 16 16 tt
+
+-- nibbles stay nibbles in the mini-boxes, either way round
+pub PQ-nibbles : (n r : ℕ × ℕ) → n.0 < 16 → n.1 < 16 → r ≡ boxed P Q n → (r.0 < 16) × (r.1 < 16)
+PQ-nibbles n r h l e = (subst (λ m. m < 16) (sym (ap (λ p. p.0) e)) (P-nibble n.0 h), subst (λ m. m < 16) (sym (ap (λ p. p.1) e)) (Q-nibble n.1 l))
+
+pub QP-nibbles : (n r : ℕ × ℕ) → n.0 < 16 → n.1 < 16 → r ≡ boxed Q P n → (r.0 < 16) × (r.1 < 16)
+QP-nibbles n r h l e = (subst (λ m. m < 16) (sym (ap (λ p. p.0) e)) (Q-nibble n.0 h), subst (λ m. m < 16) (sym (ap (λ p. p.1) e)) (P-nibble n.1 l))
+
+pub S-by_pairs : (x : ℕ) (a n b m d : ℕ × ℕ) → m.0 < 16 → m.1 < 16 → a ≡ boxed P Q (x / 16, bit_and x 15) → n ≡ exchanged a → b ≡ boxed Q P n → m ≡ exchanged b → d ≡ boxed P Q m
+    → bit_or (d.0 * 16 % 256) d.1 ≡ S x
+S-by_pairs x a n b m d h l ha hn hb hm hd =
+    let bound = PQ-nibbles m d h l hd in
+    S-by_layers x a.0 a.1 b.0 b.1 d.0 d.1 n m (ap (λ p. p.0) ha) (ap (λ p. p.1) ha) hn (ap (λ p. p.0) hb) (ap (λ p. p.1) hb) hm (ap (λ p. p.0) hd) (ap (λ p. p.1) hd) bound.0 bound.1

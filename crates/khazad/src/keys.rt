@@ -34,14 +34,16 @@ pub fn round_keys<L: Layers>(key: [u8; 16]) -> [u64; 9]
 {
     let mut before = block_at(&key, 0);
     let mut last = block_at(&key, 8);
-    array::from_fn(move |r|
-        requires { r < 9 }
-    {
-        let next = next_key::<L>(r, before, last);
-        before = last;
-        last = next;
-        next
-    })
+    array::from_fn(
+        move |r|
+            requires { r < 9 }
+        {
+            let next = next_key::<L>(r, before, last);
+            before = last;
+            last = next;
+            next
+        },
+    )
 }
 
 // Round key r of the way back.

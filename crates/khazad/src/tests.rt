@@ -2,8 +2,9 @@
 
 use crate::field::product;
 use crate::keys::round_keys;
-use crate::layer::theta;
+use crate::layer::{ByField, theta};
 use crate::sbox::substitute;
+use cipher::bytes_of;
 
 #[test]
 fn box_of_bytes(rt: HostRuntime) {
@@ -27,6 +28,9 @@ fn theta_there_and_back(rt: HostRuntime) {
 
 #[test]
 fn first_round_key_of_zeros(rt: HostRuntime) {
-    let keys = round_keys([0; 16]);
-    assert_eq!(rt; keys[0], [0x00, 0xEE, 0x95, 0xCE, 0xE9, 0x69, 0x68, 0xF7]);
+    let keys = round_keys::<ByField>([0; 16]);
+    assert_eq!(rt;
+        bytes_of(keys[0]),
+        [0x00, 0xEE, 0x95, 0xCE, 0xE9, 0x69, 0x68, 0xF7]
+    );
 }
