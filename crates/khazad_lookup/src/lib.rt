@@ -8,7 +8,6 @@ mod layer;
 mod tables;
 
 use khazad::Khazad;
-
 pub use layer::ByTables;
 
 // Khazad by lookup tables.
