@@ -4,16 +4,16 @@ use native.Mathlib.Nat.{pow-zero, pow-succ', div-div-eq-div-mul}
 use lib.Bits.{bit_xor, xor_lt, xor_shr, xor_mod}
 use Rattle.std.proofs.lemmas.Nat.{mod_below, pow-add}
 use Rattle.std.proofs.lemmas.Int.Digits.{number_push, number_lt}
-use Rattle.std.proofs.ByRecursion.{All-push, All-take}
+use Rattle.std.proofs.lemmas.List.Elements.{All-nil, All-push, All-take, recursion_from_All}
 use Rattle.std.proofs.lemmas.List.{length_push, take_all, take_more, length-take-le}
 use Rattle.std.specs.Int.Digits.{number_from_digits, number_from_digits_after}
-use Rattle.std.specs.List.{AllByRecursion}
+use Rattle.std.specs.List.{All}
 use Rattle.cipher.specs.Block.{Byte, Bytes, Block, be_bytes, be_number, ◌⊕◌}
 use Rattle.cipher.proofs.Rows.{byte_at, eight_places, xor_over, ⊕-push}
 
 pub be_bytes-bytes : (w n : ℕ) → Bytes w (be_bytes w n)
 unfolding be_bytes
-be_bytes-bytes zero n = (refl, tt)
+be_bytes-bytes zero n = (refl, All-nil Byte)
 be_bytes-bytes (suc w) n =
     let h = be_bytes-bytes w (n / 256) in (
       length_push (be_bytes w (n / 256)) (n % 256) ∙ add-one _ ∙ ap suc h.0,
@@ -22,7 +22,7 @@ be_bytes-bytes (suc w) n =
 
 pub be_number-below : (w : ℕ) (xs : List ℕ) → Bytes w xs → be_number xs < 256 ^ w
 unfolding be_number
-be_number-below w xs h = subst (λ (k : ℕ). number_from_digits 256 xs < 256 ^ k) h.0 (number_lt 256 xs h.1)
+be_number-below w xs h = subst (λ (k : ℕ). number_from_digits 256 xs < 256 ^ k) h.0 (number_lt 256 xs (recursion_from_All Byte xs h.1))
 
 -- a number is read back from its bytes
 pub number_of_bytes : (w n : ℕ) → n < 256 ^ w → be_number (be_bytes w n) ≡ n
@@ -79,11 +79,11 @@ after_front n (x ∷ xs) =
     after_front (n * 256 + x) xs
     ∙ omega (arith, after_front (0 * 256 + x) xs, add-mul (n * 256) x p, mul_assoc n 256 p, ap (λ q. n * q) (pow-succ' 256 (length xs)))
 
-pub number_first : (x : ℕ) (xs : List ℕ) → AllByRecursion Byte xs → be_number (x ∷ xs) ≡ bit_xor (x * 256 ^ length xs) (be_number xs)
+pub number_first : (x : ℕ) (xs : List ℕ) → All Byte xs → be_number (x ∷ xs) ≡ bit_xor (x * 256 ^ length xs) (be_number xs)
 unfolding be_number
 number_first x xs each =
     let bits = bytes_are_bits (length xs) in
-    let below : number_from_digits 256 xs < 2 ^ (8 * length xs) = subst (λ (p : ℕ). number_from_digits 256 xs < p) bits (number_lt 256 xs each) in
+    let below : number_from_digits 256 xs < 2 ^ (8 * length xs) = subst (λ (p : ℕ). number_from_digits 256 xs < p) bits (number_lt 256 xs (recursion_from_All Byte xs each)) in
     after_front (0 * 256 + x) xs
     ∙ ap (λ p. (0 * 256 + x) * p + number_from_digits 256 xs) bits
     ∙ sym (xor_over (8 * length xs) (0 * 256 + x) (number_from_digits 256 xs) below)

@@ -7,10 +7,10 @@ use denote.Laws.{Is}
 use denote.Plain.{UInt}
 use denote.Array.{Array}
 use Rattle.std.proofs.lemmas.List.FromFn.{fill_by_all}
-use Rattle.std.proofs.ByRecursion.{All-from_get_or, All-get_or, All-take, All-drop}
+use Rattle.std.proofs.lemmas.List.Elements.{All-nil, All-cons, All-head, All-tail, All-replicate, All-from_get_or, All-get_or, All-take, All-drop}
 use Rattle.std.proofs.lemmas.List.{ext_get_or, length-take-le, length-drop}
 use Rattle.std.proofs.lemmas.Simd.{length-zip2, get_or-zip2}
-use Rattle.std.specs.List.{AllByRecursion}
+use Rattle.std.specs.List.{All}
 use Rattle.cipher.specs.Block.{Byte, Bytes, ◌⊕◌}
 
 -- what is known of an array of bytes
@@ -18,7 +18,7 @@ pub of_array : {n : ℕ} (xs : List ℕ) (vs : List Val) → Is (Array (UInt w8)
 of_array xs vs g = (g.1.0.1, All-from_get_or Byte xs 0 (λ i h. let f : Fits w8 (get_or xs i 0) = search rules in Fits-lt-pow f))
 
 -- what is known of a slice of bytes
-pub of_slice : (xs : List ℕ) → ((i : ℕ) → Fits w8 (get_or xs i 0)) → AllByRecursion Byte xs
+pub of_slice : (xs : List ℕ) → ((i : ℕ) → Fits w8 (get_or xs i 0)) → All Byte xs
 of_slice xs fits = All-from_get_or Byte xs 0 (λ i h. Fits-lt-pow (fits i))
 
 -- a row of eight is its eight places
@@ -37,9 +37,8 @@ byte_at n xs h i l = All-get_or Byte xs i 0 (omega (arith, h.0)) h.1
 pub bytes_by_place : (n : ℕ) (xs : List ℕ) → length xs ≡ n → ((i : ℕ) → i < n → get_or xs i 0 < 256) → Bytes n xs
 bytes_by_place n xs h each = (h, All-from_get_or Byte xs 0 (λ i l. each i (omega arith)))
 
-pub zeros : (n : ℕ) → AllByRecursion Byte (replicate n 0)
-zeros zero = tt
-zeros (suc n) = (lit< tt, zeros n)
+pub zeros : (n : ℕ) → All Byte (replicate n 0)
+zeros n = All-replicate Byte n 0 (lit< tt)
 
 -- the first m bytes of a row, and the rest
 pub take-bytes : (m n : ℕ) (xs : List ℕ) → Bytes (m + n) xs → Bytes m (take m xs)
@@ -77,10 +76,11 @@ xor_over k p y h =
 
 -- ---- ⊕ of rows
 
-each_byte : (a b : List ℕ) → AllByRecursion Byte a → AllByRecursion Byte b → AllByRecursion Byte (a ⊕ b)
-each_byte [] b ha hb = tt
-each_byte (x ∷ a) [] ha hb = tt
-each_byte (x ∷ a) (y ∷ b) ha hb = (xor_lt 8 x y ha.0 hb.0, each_byte a b ha.1 hb.1)
+each_byte : (a b : List ℕ) → All Byte a → All Byte b → All Byte (a ⊕ b)
+each_byte [] b ha hb = All-nil Byte
+each_byte (x ∷ a) [] ha hb = All-nil Byte
+each_byte (x ∷ a) (y ∷ b) ha hb =
+    All-cons Byte (bit_xor x y) (a ⊕ b) (xor_lt 8 x y (All-head Byte x a ha) (All-head Byte y b hb)) (each_byte a b (All-tail Byte x a ha) (All-tail Byte y b hb))
 
 pub ⊕-bytes : (n : ℕ) (a b : List ℕ) → Bytes n a → Bytes n b → Bytes n (a ⊕ b)
 ⊕-bytes n a b ha hb = (length-zip2 bit_xor a b (ha.0 ∙ sym hb.0) ∙ ha.0, each_byte a b ha.1 hb.1)

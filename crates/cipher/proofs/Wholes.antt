@@ -1,8 +1,8 @@
 -- Rows of bytes as rows of blocks, and back.
 use Rattle.std.proofs.Common.{◌≡◌, ℕ, zero, suc, ◌+◌, ◌-◌, ◌*◌, ◌/◌, ◌%◌, ◌<◌, ◌≤◌, List, [], ◌∷◌, ◌++◌, length, take, drop, sym, refl, ap, ◌∙◌, ap₂, add-one, arith}
-use Rattle.std.proofs.ByRecursion.{All-append, All-take, All-drop}
+use Rattle.std.proofs.lemmas.List.Elements.{All-nil, All-cons, All-head, All-tail, All-append, All-take, All-drop}
 use Rattle.std.proofs.lemmas.List.{append_assoc, append-nil, length-append, length-drop, length-take-le, take_at, drop_at, drop-drop, drop_all, take-append-drop}
-use Rattle.std.specs.List.{between, AllByRecursion}
+use Rattle.std.specs.List.{between, All}
 use Rattle.cipher.specs.Block.{Byte, Bytes, Block, be_bytes, be_number, first_blocks, as_blocks, as_bytes}
 use Rattle.cipher.proofs.Numbers.{block_bytes, block_of_bytes, bytes_of_block, number_block}
 
@@ -23,24 +23,23 @@ length-as_bytes [] = refl
 length-as_bytes (b ∷ bs) = length-append (be_bytes 8 b) (as_bytes bs) ∙ omega (arith, (block_bytes b).0, length-as_bytes bs)
 
 -- the first eight of at least eight bytes
-pub first_eight : (xs : List ℕ) → AllByRecursion Byte xs → 8 ≤ length xs → Bytes 8 (take 8 xs)
+pub first_eight : (xs : List ℕ) → All Byte xs → 8 ≤ length xs → Bytes 8 (take 8 xs)
 first_eight xs each room = (length-take-le 8 xs room, All-take Byte 8 xs each)
 
-pub first_blocks-blocks : (n : ℕ) (xs : List ℕ) → AllByRecursion Byte xs → 8 * n ≤ length xs → AllByRecursion Block (first_blocks n xs)
+pub first_blocks-blocks : (n : ℕ) (xs : List ℕ) → All Byte xs → 8 * n ≤ length xs → All Block (first_blocks n xs)
 unfolding first_blocks
-first_blocks-blocks zero xs each room = tt
-first_blocks-blocks (suc n) xs each room = (
-  number_block (take 8 xs) (first_eight xs each (omega arith)),
-  first_blocks-blocks n (drop 8 xs) (All-drop Byte 8 xs each) (omega (arith, length-drop 8 xs)),
-)
+first_blocks-blocks zero xs each room = All-nil Block
+first_blocks-blocks (suc n) xs each room =
+    All-cons Block (be_number (take 8 xs)) (first_blocks n (drop 8 xs)) (number_block (take 8 xs) (first_eight xs each (omega arith)))
+    (first_blocks-blocks n (drop 8 xs) (All-drop Byte 8 xs each) (omega (arith, length-drop 8 xs)))
 
-pub as_blocks-blocks : (xs : List ℕ) → AllByRecursion Byte xs → AllByRecursion Block (as_blocks xs)
+pub as_blocks-blocks : (xs : List ℕ) → All Byte xs → All Block (as_blocks xs)
 unfolding as_blocks
 as_blocks-blocks xs each = first_blocks-blocks (length xs / 8) xs each (omega arith)
 
-pub as_bytes-bytes : (bs : List ℕ) → AllByRecursion Byte (as_bytes bs)
+pub as_bytes-bytes : (bs : List ℕ) → All Byte (as_bytes bs)
 unfolding as_bytes
-as_bytes-bytes [] = tt
+as_bytes-bytes [] = All-nil Byte
 as_bytes-bytes (b ∷ bs) = All-append Byte (be_bytes 8 b) (as_bytes bs) (block_bytes b).1 (as_bytes-bytes bs)
 
 pub as_bytes-append : (bs cs : List ℕ) → as_bytes (bs ++ cs) ≡ as_bytes bs ++ as_bytes cs
@@ -62,22 +61,22 @@ first_blocks-of_bytes b n xs h =
     ∙ ap (λ c. c ∷ first_blocks n xs) (block_of_bytes b h)
 
 -- blocks are read back from their bytes, whatever follows
-pub first_blocks-as_bytes : (bs xs : List ℕ) → AllByRecursion Block bs → first_blocks (length bs) (as_bytes bs ++ xs) ≡ bs
+pub first_blocks-as_bytes : (bs xs : List ℕ) → All Block bs → first_blocks (length bs) (as_bytes bs ++ xs) ≡ bs
 unfolding first_blocks as_bytes
 first_blocks-as_bytes [] xs each = refl
 first_blocks-as_bytes (b ∷ bs) xs each =
     ap (first_blocks (suc (length bs))) (append_assoc (be_bytes 8 b) (as_bytes bs) xs)
-    ∙ first_blocks-of_bytes b (length bs) (as_bytes bs ++ xs) each.0
-    ∙ ap (λ cs. b ∷ cs) (first_blocks-as_bytes bs xs each.1)
+    ∙ first_blocks-of_bytes b (length bs) (as_bytes bs ++ xs) (All-head Block b bs each)
+    ∙ ap (λ cs. b ∷ cs) (first_blocks-as_bytes bs xs (All-tail Block b bs each))
 
-pub as_blocks-as_bytes : (bs : List ℕ) → AllByRecursion Block bs → as_blocks (as_bytes bs) ≡ bs
+pub as_blocks-as_bytes : (bs : List ℕ) → All Block bs → as_blocks (as_bytes bs) ≡ bs
 unfolding as_blocks
 as_blocks-as_bytes bs each =
     let n : length (as_bytes bs) / 8 ≡ length bs = omega (arith, length-as_bytes bs) in
     ap₂ first_blocks n (sym (append-nil (as_bytes bs))) ∙ first_blocks-as_bytes bs [] each
 
 -- bytes are written again from their blocks
-pub as_bytes-first_blocks : (n : ℕ) (xs : List ℕ) → AllByRecursion Byte xs → 8 * n ≤ length xs → as_bytes (first_blocks n xs) ++ drop (8 * n) xs ≡ xs
+pub as_bytes-first_blocks : (n : ℕ) (xs : List ℕ) → All Byte xs → 8 * n ≤ length xs → as_bytes (first_blocks n xs) ++ drop (8 * n) xs ≡ xs
 unfolding first_blocks as_bytes
 as_bytes-first_blocks zero xs each room = refl
 as_bytes-first_blocks (suc n) xs each room =
@@ -88,7 +87,7 @@ as_bytes-first_blocks (suc n) xs each room =
     ∙ append_assoc (take 8 xs) (as_bytes (first_blocks n (drop 8 xs))) (drop (8 * n) (drop 8 xs))
     ∙ ap (λ more. take 8 xs ++ more) rest ∙ take-append-drop 8 xs
 
-pub as_bytes-as_blocks : (xs : List ℕ) → AllByRecursion Byte xs → length xs % 8 ≡ 0 → as_bytes (as_blocks xs) ≡ xs
+pub as_bytes-as_blocks : (xs : List ℕ) → All Byte xs → length xs % 8 ≡ 0 → as_bytes (as_blocks xs) ≡ xs
 unfolding as_blocks
 as_bytes-as_blocks xs each whole =
     let n = length xs / 8 in

@@ -13,14 +13,14 @@
 use Rattle.std.specs.Prelude.{◌≡◌, ℕ, zero, suc, ◌+◌, ◌*◌, ◌/◌, ◌%◌, ◌^◌, ◌<◌, Bool, List, [], ◌∷◌, ◌++◌, length, take, drop, ◌==◌, bit_xor}
 use Rattle.std.specs.Simd.Lanes.{zip2}
 use Rattle.std.specs.Int.Digits.{number_from_digits}
-use Rattle.std.specs.List.{AllByRecursion}
+use Rattle.std.specs.List.{All}
 
 abbrev pub Byte : ℕ → Type 0
 Byte b = b < 256
 
 -- a row of n bytes
 abbrev pub Bytes : ℕ → List ℕ → Type 0
-Bytes n xs = (length xs ≡ n) × AllByRecursion Byte xs
+Bytes n xs = (length xs ≡ n) × All Byte xs
 
 -- a block is eight bytes, and is taken as the number that they write
 abbrev pub Block : ℕ → Type 0
