@@ -3,7 +3,8 @@ use Rattle.std.proofs.Common.{◌≡◌, ℕ, ◌+◌, ◌*◌, ◌<◌, ◌≤�
 use lib.Bits.{bit_xor, xor_assoc, xor_zero_r}
 use Rattle.std.proofs.lemmas.Simd.{get_or-zip2}
 use Rattle.std.proofs.lemmas.List.{get_or-map, get_or-replicate, get_or_append_left, drop_at}
-use Rattle.std.specs.List.{flat_map, AllByRecursion}
+use Rattle.std.specs.List.{flat_map, All}
+use Rattle.std.proofs.lemmas.List.Elements.{All-head, All-tail}
 use Rattle.cipher.specs.Block.{Byte, Bytes}
 use Rattle.khazad.specs.Khazad.{mul, H, scaled, product, θ}
 use Rattle.khazad.specs.Layers.{Wide, H-wide, scaled-bytes, product-bytes}
@@ -14,15 +15,15 @@ dot [] rows j = 0
 dot (x ∷ xs) [] j = 0
 dot (x ∷ xs) (row ∷ rows) j = bit_xor (mul (get_or row j 0) x) (dot xs rows j)
 
-pub product_at : (a : List ℕ) → AllByRecursion Byte a → (rows : List (List ℕ)) → Wide rows → (j : ℕ) → j < 8 → get_or (product a rows) j 0 ≡ dot a rows j
+pub product_at : (a : List ℕ) → All Byte a → (rows : List (List ℕ)) → Wide rows → (j : ℕ) → j < 8 → get_or (product a rows) j 0 ≡ dot a rows j
 unfolding product dot scaled
 product_at [] h rows w j l = get_or-replicate 8 j 0 0 l
 product_at (x ∷ a) h [] w j l = get_or-replicate 8 j 0 0 l
 product_at (x ∷ a) h (row ∷ rows) w j l =
-    let wide : j < length row = omega (arith, w.0) in
+    let wide : j < length row = omega (arith, All-head (λ row. length row ≡ 8) row rows w) in
     get_or-zip2 bit_xor (scaled x row) (product a rows) j 0 0 0
-    (omega (arith, (scaled-bytes x h.0 row w.0).0)) (omega (arith, (product-bytes a h.1 rows w.1).0))
-    ∙ ap₂ bit_xor (get_or-map (λ e. mul e x) row j 0 0 wide) (product_at a h.1 rows w.1 j l)
+    (omega (arith, (scaled-bytes x (All-head Byte x a h) row (All-head (λ row. length row ≡ 8) row rows w)).0)) (omega (arith, (product-bytes a (All-tail Byte x a h) rows (All-tail (λ row. length row ≡ 8) row rows w)).0))
+    ∙ ap₂ bit_xor (get_or-map (λ e. mul e x) row j 0 0 wide) (product_at a (All-tail Byte x a h) rows (All-tail (λ row. length row ≡ 8) row rows w) j l)
 
 pub θ-at : (a : List ℕ) → Bytes 8 a → (j : ℕ) → j < 8 → get_or (θ a) j 0 ≡ dot a H j
 unfolding θ
@@ -41,9 +42,10 @@ dot-flat [] rows w h j l = refl
 dot-flat (x ∷ xs) [] w h j l = absurd (omega arith)
 dot-flat (x ∷ xs) (row ∷ rows) w h j l =
     let others = flat_map (λ (row : List ℕ). row) rows in
-    let within : j < length row = omega (arith, w.0) in
+    let eight : length row ≡ 8 = All-head (λ row. length row ≡ 8) row rows w in
+    let within : j < length row = omega arith in
     ap₂ (λ e rest. bit_xor (mul e x) rest) (sym (get_or_append_left row others 0 j within))
-    (dot-flat xs rows w.1 (omega arith) j l ∙ ap (λ es. dot_flat xs es j) (sym (drop_at row others 8 w.0)))
+    (dot-flat xs rows (All-tail (λ row. length row ≡ 8) row rows w) (omega arith) j l ∙ ap (λ es. dot_flat xs es j) (sym (drop_at row others 8 eight)))
 
 pub θ-flat : (a : List ℕ) → Bytes 8 a → (j : ℕ) → j < 8 → dot_flat a (flat_map (λ row. row) H) j ≡ get_or (θ a) j 0
 θ-flat a h j l = sym (θ-at a h j l ∙ dot-flat a H H-wide h.0 j l)

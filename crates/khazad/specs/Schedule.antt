@@ -1,11 +1,12 @@
 -- The round keys of a key: each is a block, and how each comes from those before it.
-use Rattle.std.specs.Prelude.{◌≡◌, ℕ, zero, suc, ◌+◌, ◌*◌, ◌<◌, List, ◌++◌, length}
+use Rattle.std.specs.Prelude.{◌≡◌, ℕ, zero, suc, ◌+◌, ◌*◌, ◌<◌, List, ◌++◌, length, slice_index_or}
 use Rattle.std.proofs.Common.{sym, ap, ap₂, ◌∙◌, add-one, arith}
-use Rattle.std.proofs.lemmas.List.FromFn.{length-map-range_with_len}
+use Rattle.std.proofs.lemmas.List.FromFn.{length-map-range_with_len, get_or-range_with_len}
+use Rattle.std.proofs.lemmas.List.Elements.{All-map}
 use Rattle.std.proofs.lemmas.List.{drop_at, take_at}
-use Rattle.cipher.specs.Block.{Bytes, Key, ◌⊕◌}
+use Rattle.cipher.specs.Block.{Byte, Bytes, Key, ◌⊕◌}
 use Rattle.cipher.proofs.Rows.{⊕-bytes, take-bytes, drop-bytes}
-use Rattle.khazad.specs.Khazad.{S, γ, θ, c, K_from_minus_two, K}
+use Rattle.khazad.specs.Khazad.{S, places, γ, θ, c, K_from_minus_two, K}
 use Rattle.khazad.specs.Boxes.{S-byte}
 use Rattle.khazad.specs.Layers.{γ-bytes, θ-bytes}
 
@@ -13,19 +14,7 @@ pub c-bytes : (r : ℕ) → r < 9 → Bytes 8 (c r)
 unfolding c
 c-bytes r h = (
   length-map-range_with_len (λ i. S (8 * r + i)) 0 8,
-  (
-    S-byte (8 * r + 0) (omega arith),
-    (
-      S-byte (8 * r + 1) (omega arith),
-      (
-        S-byte (8 * r + 2) (omega arith),
-        (
-          S-byte (8 * r + 3) (omega arith),
-          (S-byte (8 * r + 4) (omega arith), (S-byte (8 * r + 5) (omega arith), (S-byte (8 * r + 6) (omega arith), (S-byte (8 * r + 7) (omega arith), tt)))),
-        ),
-      ),
-    ),
-  ),
+  All-map Byte (λ i. S (8 * r + i)) places (λ k d l. S-byte (8 * r + slice_index_or places k d) (omega (arith, get_or-range_with_len 0 8 k d l))),
 )
 
 from_minus_two_bytes : (key : List ℕ) → Key key → (n : ℕ) → n < 11 → Bytes 8 (K_from_minus_two key n)

@@ -1,9 +1,9 @@
 // Khazad as a block cipher, over every way to work out its layers.
 
-ghost use Rattle.std.specs.Prelude.{◌≡◌, ℕ, ◌<◌, length, slice_index};
+ghost use Rattle.std.specs.Prelude.{◌≡◌};
 ghost use Rattle.khazad.specs.Khazad.{K, inverse, α, enciphered as khazad_enciphered, deciphered as khazad_deciphered};
 ghost use Rattle.khazad.specs.Blocks.{nine_blocks, on_blocks, rows_of};
-ghost use Rattle.cipher.proofs.Rows.{bytes_by_place};
+ghost use Rattle.cipher.specs.Block.{Key};
 ghost use Rattle.khazad.specs.Undo.{khazad_lawful};
 
 use crate::keys::{inverse_keys, round_keys};
@@ -18,8 +18,7 @@ pub struct Khazad<L> {
     forward: [u64; 9],
     backward: [u64; 9],
     layers: PhantomData<L>,
-    ghost key_has_sixteen: { length key ≡ 16 },
-    ghost key_is_bytes: { (i : ℕ) → i < 16 → slice_index key i < 256 },
+    ghost key_is_sixteen_bytes: { Key key },
     ghost forward_is_of_key: { forward ≡ nine_blocks (K key) },
     ghost backward_is_of_key: { backward ≡ nine_blocks (inverse (K key)) },
 }
@@ -42,7 +41,7 @@ impl<L: Layers> Cipher for Khazad<L> {
 
     ghost key = { λ s. s.key };
 
-    ghost keyed = { λ s. bytes_by_place 16 s.key s.key_has_sixteen s.key_is_bytes };
+    ghost keyed = { λ s. s.key_is_sixteen_bytes };
 
     ghost lawful = { khazad_lawful };
 

@@ -2,7 +2,7 @@
 use Rattle.std.proofs.Common.{◌≡◌, ℕ, ◌-◌, ◌*◌, ◌%◌, ◌^◌, ◌<◌, ◌≤◌, ◌+◌, drop, List, [], ◌∷◌, length, get_or, replicate, sym, refl, ap, ◌∙◌}
 use lib.Bits.{bit_and, bit_xor, xor_assoc, xor_zero_r, xor_zero_l}
 use Rattle.std.proofs.lemmas.List.{drop_more, drop_all}
-use Rattle.std.specs.List.{AllByRecursion}
+use Rattle.std.specs.List.{All}
 use Rattle.cipher.specs.Block.{Byte, Bytes, be_bytes, be_number}
 use Rattle.cipher.proofs.Computed.{agree_pairs}
 use Rattle.cipher.proofs.Numbers.{be_number-⊕, block_bytes, bytes_of_block, number_first}
@@ -25,7 +25,7 @@ zeros_are_zero : be_number (replicate 8 0) ≡ 0
 unfolding be_number
 zeros_are_zero = refl
 
-product-sum : (a : List ℕ) → AllByRecursion Byte a → (rows : List (List ℕ)) → Wide rows → be_number (product (γ a) rows) ≡ boxed-sum a rows
+product-sum : (a : List ℕ) → All Byte a → (rows : List (List ℕ)) → Wide rows → be_number (product (γ a) rows) ≡ boxed-sum a rows
 unfolding product γ boxed-sum
 product-sum [] h rows w = zeros_are_zero
 product-sum (x ∷ a) h [] w = zeros_are_zero
@@ -49,7 +49,7 @@ unfoldable placed_sum : List ℕ → ℕ
 placed_sum [] = 0
 placed_sum (x ∷ xs) = bit_xor (x * 256 ^ length xs) (placed_sum xs)
 
-number_is_placed_sum : (xs : List ℕ) → AllByRecursion Byte xs → be_number xs ≡ placed_sum xs
+number_is_placed_sum : (xs : List ℕ) → All Byte xs → be_number xs ≡ placed_sum xs
 unfolding be_number placed_sum
 number_is_placed_sum [] h = refl
 number_is_placed_sum (x ∷ xs) h = number_first x xs h.1 ∙ ap (bit_xor (x * 256 ^ length xs)) (number_is_placed_sum xs h.1)

@@ -1,4 +1,4 @@
-use Rattle.cipher.proofs.Rows.{of_array, byte_at}
+use Rattle.cipher.proofs.Rows.{of_array}
 use Rattle.khazad.proofs.Rounds.{backward_of_key}
 use Rattle.khazad.proofs.engine.KhazadCipher.prepare.Goals as goal
 
@@ -8,8 +8,7 @@ invariant_of-result g c =
     let h = of_array _ _ c.well_formed.0 in
     let of_key = c.round_keys-forward.ensures in
     record {
-      key_has_sixteen = h.0;
-      key_is_bytes = byte_at 16 key h;
+      key_is_sixteen_bytes = h;
       forward_is_of_key = of_key;
       backward_is_of_key = backward_of_key key h c.round_keys-forward.result c.inverse_keys-backward.result of_key c.inverse_keys-backward.ensures;
     }
