@@ -3,6 +3,7 @@ use Rattle.std.proofs.Common.{◌≡◌, ℕ, ◌-◌, ◌*◌, ◌%◌, ◌^◌
 use lib.Bits.{bit_and, bit_xor, xor_assoc, xor_zero_r, xor_zero_l}
 use Rattle.std.proofs.lemmas.List.{drop_more, drop_all}
 use Rattle.std.specs.List.{All}
+use Rattle.std.proofs.lemmas.List.Elements.{All-head, All-tail}
 use Rattle.cipher.specs.Block.{Byte, Bytes, be_bytes, be_number}
 use Rattle.cipher.proofs.Computed.{agree_pairs}
 use Rattle.cipher.proofs.Numbers.{be_number-⊕, block_bytes, bytes_of_block, number_first}
@@ -30,8 +31,11 @@ unfolding product γ boxed-sum
 product-sum [] h rows w = zeros_are_zero
 product-sum (x ∷ a) h [] w = zeros_are_zero
 product-sum (x ∷ a) h (row ∷ rows) w =
-    be_number-⊕ (scaled (S x) row) (product (γ a) rows) (scaled-bytes (S x) (S-byte x h.0) row w.0) (product-bytes (γ a) (γ-bytes (length a) a (refl, h.1)).1 rows w.1)
-    ∙ ap (bit_xor (be_number (scaled (S x) row))) (product-sum a h.1 rows w.1)
+    let rest = All-tail (λ row. length row ≡ 8) row rows w in
+    let bytes = All-tail Byte x a h in
+    be_number-⊕ (scaled (S x) row) (product (γ a) rows) (scaled-bytes (S x) (S-byte x (All-head Byte x a h)) row (All-head (λ row. length row ≡ 8) row rows w))
+    (product-bytes (γ a) (γ-bytes (length a) a (refl, bytes)).1 rows rest)
+    ∙ ap (bit_xor (be_number (scaled (S x) row))) (product-sum a bytes rows rest)
 
 pub entries_add_up : (a : List ℕ) → Bytes 8 a → added table_entry 0 a ≡ be_number (θ (γ a))
 unfolding θ boxed-sum added table_entry
@@ -52,7 +56,7 @@ placed_sum (x ∷ xs) = bit_xor (x * 256 ^ length xs) (placed_sum xs)
 number_is_placed_sum : (xs : List ℕ) → All Byte xs → be_number xs ≡ placed_sum xs
 unfolding be_number placed_sum
 number_is_placed_sum [] h = refl
-number_is_placed_sum (x ∷ xs) h = number_first x xs h.1 ∙ ap (bit_xor (x * 256 ^ length xs)) (number_is_placed_sum xs h.1)
+number_is_placed_sum (x ∷ xs) h = number_first x xs (All-tail Byte x xs h) ∙ ap (bit_xor (x * 256 ^ length xs)) (number_is_placed_sum xs (All-tail Byte x xs h))
 
 pub boxes_add_up : (a : List ℕ) → Bytes 8 a → added (λ k x. S x * 256 ^ (7 - k)) 0 a ≡ be_number (γ a)
 unfolding placed_sum γ added
