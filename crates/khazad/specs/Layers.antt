@@ -12,9 +12,13 @@ use Rattle.khazad.specs.Products.{mul-xor, mul-byte}
 
 -- ---- γ
 
+each_boxed : (a : List ℕ) → All Byte a → All Byte (γ a)
+unfolding γ
+each_boxed a h = All-map Byte S a (λ k d l. S-byte (slice_index_or a k d) (h k d l))
+
 pub γ-bytes : (n : ℕ) (a : List ℕ) → Bytes n a → Bytes n (γ a)
 unfolding γ
-γ-bytes n a h = (length-map a S ∙ h.0, All-map Byte S a (λ k d l. S-byte (slice_index_or a k d) (h.1 k d l)))
+γ-bytes n a h = (length-map a S ∙ h.0, each_boxed a h.1)
 
 pub γ-at : (n : ℕ) (a : List ℕ) → length a ≡ n → (k : ℕ) → k < n → slice_index (γ a) k ≡ S (slice_index a k)
 unfolding γ
@@ -27,9 +31,13 @@ unfolding γ
 
 -- ---- a byte times a row
 
+each_scaled : (x : ℕ) → x < 256 → (row : List ℕ) → All Byte (scaled x row)
+unfolding scaled
+each_scaled x h row = All-map Byte (λ e. mul e x) row (λ k d l. mul-byte (slice_index_or row k d) x h)
+
 pub scaled-bytes : (x : ℕ) → x < 256 → (row : List ℕ) → length row ≡ 8 → Bytes 8 (scaled x row)
 unfolding scaled
-scaled-bytes x h row e = (length-map row (λ h. mul h x) ∙ e, All-map Byte (λ h. mul h x) row (λ k d l. mul-byte (slice_index_or row k d) x h))
+scaled-bytes x h row e = (length-map row (λ h. mul h x) ∙ e, each_scaled x h row)
 
 scaled-xor : (x y : ℕ) → x < 256 → y < 256 → (row : List ℕ) → scaled (bit_xor x y) row ≡ scaled x row ⊕ scaled y row
 unfolding scaled

@@ -12,20 +12,13 @@ use std::array;
 // The number of the last round.
 const LAST: usize = 8;
 
-// c(r), the constant of round r: γ of the bytes 8r to 8r + 7.
-fn constant<L: Layers>(r: usize) -> u64
-    requires { r < 9 }
-    ensures { result ≡ be_number (c r) }
-{
-    L::gamma(0x0001_0203_0405_0607 + r as u64 * 0x0808_0808_0808_0808)
-}
-
-// K(r), from the two before it.
+// K(r), from the two before it. c(r), the constant of round r, is γ of the bytes 8r to 8r + 7.
 fn next_key<L: Layers>(r: usize, before: u64, last: u64) -> u64
     requires { r < 9 }
     ensures { result ≡ be_number (c r ⊕ θ (γ (be_bytes 8 last)) ⊕ be_bytes 8 before) }
 {
-    constant::<L>(r) ^ L::theta_gamma(last) ^ before
+    let constant = L::gamma(0x0001_0203_0405_0607 + r as u64 * 0x0808_0808_0808_0808);
+    constant ^ L::theta_gamma(last) ^ before
 }
 
 // K(0) to K(8).
