@@ -3,14 +3,14 @@ use Rattle.std.proofs.Common.{◌≡◌, ℕ, zero, suc, ◌+◌, ◌-◌, ◌*�
 use lib.Bits.{bit_xor, xor_zero_l, xor_lt}
 use Rattle.std.proofs.lemmas.Nat.{mod_below}
 use Rattle.std.proofs.ByRecursion.{All-append, All-drop}
-use Rattle.std.proofs.lemmas.List.{append_cancel_right, length-append, length-drop, length-replicate, take_all, take-take, take-append-drop, take_rest, drop-take, drop_at, drop-drop, drop-replicate, set_at}
+use Rattle.std.proofs.lemmas.List.{append_cancel_right, length-append, length-drop, length-replicate, take_all, take-take, take-append-drop, take_rest, drop-take, take_at, drop_at, drop-drop, drop-replicate, set_at}
 use Rattle.std.proofs.lemmas.Bool.{cond_both, cond-true, cond-false, cases_lt, cases_eq, eq-eqb, ne_eqb}
 use Rattle.std.specs.List.{between, AllByRecursion}
 use borrow.Rule.Slice.PartMut.{post_of}
 use Rattle.cipher.specs.Block.{Byte, Bytes, Block, be_bytes, be_number, first_blocks, DifferInOneBlock}
 use Rattle.cipher.specs.Inverse.{Inverse}
 use Rattle.cipher.proofs.Inverses.{apart}
-use Rattle.cipher.proofs.Numbers.{block_bytes, bytes_of_block, number_block, same_number}
+use Rattle.cipher.proofs.Numbers.{block_bytes, block_of_bytes, bytes_of_block, number_block, same_number}
 use Rattle.cipher.proofs.Rows.{xor_cancel, xor_cancel_right, zeros}
 use Rattle.cipher.proofs.Wholes.{first_blocks-blocks, first_blocks-of_bytes, first_blocks-more, first_eight}
 use Rattle.modes.specs.Cmac.{doubled, before_last, padded, K1, K2, last_block, chained, tag_from, CMAC}
@@ -50,8 +50,8 @@ module _ (CIPH : ℕ → ℕ) where
     is_K1 : k1 ≡ K1 CIPH
     is_K1 = one ∙ ap doubled l
 
-    pub last_of_eight : length bytes ≡ 8 → block ≡ be_number (between 0 8 bytes) → bit_xor k1 block ≡ last_block CIPH bytes
-    last_of_eight whole read = ap₂ bit_xor is_K1 (read ∙ ap be_number (take_all 8 bytes (omega arith))) ∙ sym (whole_last bytes whole)
+    pub last_of_eight : length bytes ≡ 8 → block ≡ be_number bytes → bit_xor k1 block ≡ last_block CIPH bytes
+    last_of_eight whole read = ap₂ bit_xor is_K1 read ∙ sym (whole_last bytes whole)
 
     pub last_of_fewer : (length bytes ≡ 8 → ⊥) → block ≡ be_number (padded bytes) → bit_xor k2 block ≡ last_block CIPH bytes
     last_of_fewer short read = ap₂ bit_xor (two ∙ ap doubled is_K1) read ∙ sym (short_last bytes short)
@@ -76,54 +76,34 @@ module _ (CIPH : ℕ → ℕ) where
       append_cancel_right xs ys (0x80 ∷ replicate (7 - length xs) 0) (same ∙ ap (λ n. ys ++ 0x80 ∷ replicate (7 - n) 0) (sym long)))
       (cases_eq (length xs) 8)
 
-  -- ---- the chain
+  -- ---- the chain, block by block
 
-  -- one block more
-  pub chained-push : (bs : List ℕ) (b C : ℕ) → chained CIPH C (bs ++ b ∷ []) ≡ CIPH (bit_xor (chained CIPH C bs) b)
-  unfolding chained
-  chained-push [] b C = refl
-  chained-push (M ∷ Ms) b C = chained-push Ms b (CIPH (bit_xor C M))
+  -- a message of eight bytes or fewer is its last block
+  pub short_tag : (C : ℕ) (message : List ℕ) → length message ≤ 8 → tag_from CIPH C message ≡ CIPH (bit_xor C (last_block CIPH message))
+  unfolding tag_from chained first_blocks
+  short_tag C message few =
+      let none : before_last message ≡ 0 = omega arith in
+      ap (λ n. CIPH (bit_xor (chained CIPH C (first_blocks n message)) (last_block CIPH (drop (8 * n) message)))) none
 
-  -- nothing is chained yet, and one more block of a message
-  pub chained-none : (C : ℕ) (message : List ℕ) → C ≡ chained CIPH C (first_blocks 0 message)
-  unfolding chained first_blocks
-  chained-none C message = refl
-
-  pub chained_more : (i C chain block next : ℕ) (message : List ℕ) → chain ≡ chained CIPH C (first_blocks i message)
-      → block ≡ be_number (between (8 * i) (8 * i + 8) message) → next ≡ CIPH (bit_xor chain block) → next ≡ chained CIPH C (first_blocks (i + 1) message)
-  chained_more i C chain block next message so_far read made =
-      let eight : 8 * i + 8 - 8 * i ≡ 8 = omega arith in
-      made ∙ ap₂ (λ c b. CIPH (bit_xor c b)) so_far (read ∙ ap (λ n. be_number (take n (drop (8 * i) message))) eight)
-      ∙ sym (chained-push (first_blocks i message) (be_number (take 8 (drop (8 * i) message))) C)
-      ∙ ap (chained CIPH C) (sym (first_blocks-more i message))
-
-  -- the tag, from the chain and from the last block, which is made of `&message[8 * n..]`
-  pub tagged : (i n chain last tag : ℕ) (message : List ℕ) → i ≡ before_last message → n ≡ before_last message → chain ≡ chained CIPH 0 (first_blocks i message)
-      → last ≡ last_block CIPH (take (length message - 8 * n) (drop (8 * n) message)) → tag ≡ CIPH (bit_xor chain last) → tag ≡ CMAC CIPH message
-  unfolding CMAC tag_from
-  tagged i n chain last tag message upto from so_far lastly made =
-      made
-      ∙ ap₂ (λ c b. CIPH (bit_xor c b))
-      (so_far ∙ ap (λ k. chained CIPH 0 (first_blocks k message)) upto)
-      (lastly ∙ ap (last_block CIPH) (take_rest message (8 * n) ∙ ap (λ k. drop (8 * k) message) from))
-
-  -- ---- split at the header
+  -- a longer one begins with a block, and goes on from the chain with that block in it
+  pub long_tag : (C : ℕ) (message : List ℕ) → 8 < length message → tag_from CIPH C message ≡ tag_from CIPH (CIPH (bit_xor C (be_number (take 8 message)))) (drop 8 message)
+  unfolding tag_from chained first_blocks
+  long_tag C message many =
+      let n = before_last (drop 8 message) in
+      let count : before_last message ≡ suc n = omega (arith, length-drop 8 message) in
+      let past : 8 * suc n ≡ 8 + 8 * n = omega arith in
+      let rest : drop (8 * before_last message) message ≡ drop (8 * n) (drop 8 message) =
+      ap (λ k. drop (8 * k) message) count ∙ ap (λ k. drop k message) past ∙ sym (drop-drop (8 * n) 8 message) in
+      ap₂ (λ k last. CIPH (bit_xor (chained CIPH C (first_blocks k message)) (last_block CIPH last))) count rest
 
   -- the tag of a header block and a body is that of the body, with the header in the chain already
-  pub header_first : (C header : ℕ) (body : List ℕ) → Block header → 0 < length body → tag_from CIPH C (be_bytes 8 header ++ body) ≡ tag_from CIPH (CIPH (bit_xor C header)) body
-  unfolding tag_from chained
-  header_first C header body h some =
-      let message = be_bytes 8 header ++ body in
-      let n = before_last body in
-      let count : before_last message ≡ suc n = omega (arith, length-append (be_bytes 8 header) body, (block_bytes header).0) in
-      let blocks : first_blocks (before_last message) message ≡ header ∷ first_blocks n body = ap (λ k. first_blocks k message) count ∙ first_blocks-of_bytes header n body h in
-      let rest : drop (8 * before_last message) message ≡ drop (8 * n) body =
-      ap (λ k. drop k message) (ap (λ k. 8 * k) count ∙ omega arith) ∙ sym (drop-drop (8 * n) 8 message) ∙ ap (drop (8 * n)) (drop_at (be_bytes 8 header) body 8 (block_bytes header).0) in
-      ap₂ (λ bs last. CIPH (bit_xor (chained CIPH C bs) (last_block CIPH last))) blocks rest
-
   pub tag_of_header_and_body : (header : ℕ) (body : List ℕ) → Block header → 0 < length body → CMAC CIPH (be_bytes 8 header ++ body) ≡ tag_from CIPH (CIPH header) body
   unfolding CMAC
-  tag_of_header_and_body header body h some = header_first 0 header body h some ∙ ap (λ C. tag_from CIPH (CIPH C) body) (xor_zero_l header)
+  tag_of_header_and_body header body h some =
+      let eight = (block_bytes header).0 in
+      long_tag 0 (be_bytes 8 header ++ body) (omega (arith, length-append (be_bytes 8 header) body, eight))
+      ∙ ap₂ (λ first rest. tag_from CIPH (CIPH (bit_xor 0 (be_number first))) rest) (take_at (be_bytes 8 header) body 8 eight) (drop_at (be_bytes 8 header) body 8 eight)
+      ∙ ap (λ block. tag_from CIPH (CIPH block) body) (xor_zero_l (be_number (be_bytes 8 header)) ∙ block_of_bytes header h)
 
 -- ---- one block tells
 
@@ -173,21 +153,6 @@ module _ (CIPH back : ℕ → ℕ) (law : Inverse CIPH back) where
   unfolding CMAC
   CMAC-block message each = tag_block message 0 each (lit< tt)
 
-  -- a message of eight bytes or fewer is its last block
-  short_tag : (C : ℕ) (message : List ℕ) → length message ≤ 8 → tag_from CIPH C message ≡ CIPH (bit_xor C (last_block CIPH message))
-  unfolding tag_from chained first_blocks
-  short_tag C message few =
-      let none : before_last message ≡ 0 = omega arith in
-      ap (λ n. CIPH (bit_xor (chained CIPH C (first_blocks n message)) (last_block CIPH (drop (8 * n) message)))) none
-
-  -- a longer one is a header and a body
-  long_tag : (C : ℕ) (message : List ℕ) → AllByRecursion Byte message → 8 < length message → tag_from CIPH C message ≡ tag_from CIPH (CIPH (bit_xor C (be_number (take 8 message)))) (drop 8 message)
-  long_tag C message each many =
-      let eight = first_eight message each (omega arith) in
-      let header = be_number (take 8 message) in
-      let split : message ≡ be_bytes 8 header ++ drop 8 message = sym (take-append-drop 8 message) ∙ ap (λ front. front ++ drop 8 message) (sym (bytes_of_block (take 8 message) eight)) in
-      ap (tag_from CIPH C) split ∙ header_first CIPH C header (drop 8 message) (number_block (take 8 message) eight) (omega (arith, length-drop 8 message))
-
   module _ (xs ys : List ℕ) (hx : AllByRecursion Byte xs) (hy : AllByRecursion Byte ys) (long : length xs ≡ length ys) where
     short_tells : (C : ℕ) → Block C → length xs ≤ 8 → tag_from CIPH C xs ≡ tag_from CIPH C ys → xs ≡ ys
     short_tells C hc few e =
@@ -196,7 +161,7 @@ module _ (CIPH back : ℕ → ℕ) (law : Inverse CIPH back) where
         last_tells CIPH xs ys hx hy long few
         (xor_cancel C (last_block CIPH xs) (last_block CIPH ys)
         (apart law (bit_xor C (last_block CIPH xs)) (bit_xor C (last_block CIPH ys)) (xor_lt 64 C (last_block CIPH xs) hc lx) (xor_lt 64 C (last_block CIPH ys) hc ly)
-        (sym (short_tag C xs few) ∙ e ∙ short_tag C ys (omega arith))))
+        (sym (short_tag CIPH C xs few) ∙ e ∙ short_tag CIPH C ys (omega arith))))
 
     rejoined : take 8 xs ≡ take 8 ys → drop 8 xs ≡ drop 8 ys → xs ≡ ys
     rejoined front rest = sym (take-append-drop 8 xs) ∙ ap₂ (λ u v. u ++ v) front rest ∙ take-append-drop 8 ys
@@ -210,7 +175,7 @@ module _ (CIPH back : ℕ → ℕ) (law : Inverse CIPH back) where
       y = be_number (take 8 ys)
 
       same_tags : tag_from CIPH (CIPH (bit_xor C x)) (drop 8 xs) ≡ tag_from CIPH (CIPH (bit_xor C y)) (drop 8 ys)
-      same_tags = sym (long_tag C xs hx many) ∙ e ∙ long_tag C ys hy (omega arith)
+      same_tags = sym (long_tag CIPH C xs many) ∙ e ∙ long_tag CIPH C ys (omega arith)
 
       same_rest_tells : drop 8 xs ≡ drop 8 ys → xs ≡ ys
       same_rest_tells rest =

@@ -89,30 +89,21 @@ module _ (there back : ℕ → ℕ) (law : Inverse there back) where
 
 -- ---- of buffers
 
--- what is granted is whole blocks, and what is written over them is what is left
-pub granted_whole : (buffer : List ℕ) → Ok tt ≡ answered buffer → length buffer % 8 ≡ 0
-granted_whole buffer e =
-    ⊎_elim (λ whole. eqb-true (length buffer % 8) 0 whole)
-    (λ ragged. let no = e ∙ cond-false (is_whole buffer) (Ok tt) (Err NotWholeBlocks) ragged in absurd (let z : ◌≡◌ {A = ℕ} 0 1 = cc in omega arith))
-    (cases_Bool (is_whole buffer))
-
-pub left_whole : (mode : List ℕ → List ℕ) (buffer left : List ℕ) → length buffer % 8 ≡ 0 → left ≡ as_bytes (mode (as_blocks buffer)) → left ≡ left_by mode buffer
-left_whole mode buffer left whole made = made ∙ sym (cond-true (is_whole buffer) (as_bytes (mode (as_blocks buffer))) buffer (eq-eqb (length buffer % 8) 0 whole))
-
-module _ (there back : List ℕ → List ℕ) (undoes : Undoes there back) (buffer : List ℕ) (each : AllByRecursion Byte buffer) where
+module _ {there back : List ℕ → List ℕ} (undoes : Undoes there back) {buffer left : List ℕ} (each : AllByRecursion Byte buffer) (written : left ≡ left_by there buffer) where
   -- whole blocks come back, and what was refused was left as it was
-  pub left_undone : left_by back (left_by there buffer) ≡ buffer
+  pub left_undone : left_by back left ≡ buffer
   left_undone =
       let blocks = as_blocks buffer in
-      let left = as_bytes (there blocks) in
+      let made = as_bytes (there blocks) in
+      ap (left_by back) written ∙
       ⊎_elim
       (λ whole.
       let w = eqb-true (length buffer % 8) 0 whole in
-      let long : length left % 8 ≡ 0 = omega (arith, length-as_bytes (there blocks)) in
-      ap (left_by back) (cond-true (is_whole buffer) left buffer whole)
-      ∙ cond-true (is_whole left) (as_bytes (back (as_blocks left))) left (eq-eqb (length left % 8) 0 long)
+      let long : length made % 8 ≡ 0 = omega (arith, length-as_bytes (there blocks)) in
+      ap (left_by back) (cond-true (is_whole buffer) made buffer whole)
+      ∙ cond-true (is_whole made) (as_bytes (back (as_blocks made))) made (eq-eqb (length made % 8) 0 long)
       ∙ ap (λ bs. as_bytes (back bs)) (as_blocks-as_bytes (there blocks) (undoes.to_blocks blocks (as_blocks-blocks buffer each)))
       ∙ ap as_bytes (undoes.back_again blocks (as_blocks-blocks buffer each))
       ∙ as_bytes-as_blocks buffer each w)
-      (λ ragged. ap (left_by back) (cond-false (is_whole buffer) left buffer ragged) ∙ cond-false (is_whole buffer) (as_bytes (back blocks)) buffer ragged)
+      (λ ragged. ap (left_by back) (cond-false (is_whole buffer) made buffer ragged) ∙ cond-false (is_whole buffer) (as_bytes (back blocks)) buffer ragged)
       (cases_Bool (is_whole buffer))

@@ -1,84 +1,112 @@
--- A walk over a buffer, block after block, that writes in place.
-use Rattle.std.proofs.Common.{◌≡◌, ℕ, ◌+◌, ◌-◌, ◌*◌, ◌≤◌, List, [], ◌∷◌, ◌++◌, length, take, drop, sym, refl, ap, ◌∙◌, ap₂, arith}
-use lib.Bits.{bit_xor}
-use Rattle.std.proofs.lemmas.List.{append_assoc, append-nil, length-append, length-take-le, take_all, take_at, drop_at, drop-drop, drop_all}
+-- A walk over a buffer, block after block, that writes what a step makes of each.
+use Rattle.std.proofs.Common.{◌≡◌, ℕ, ◌+◌, ◌-◌, ◌*◌, ◌≤◌, ◌<◌, ◌%◌, List, [], ◌∷◌, ◌++◌, length, take, drop, sym, refl, ap, ◌∙◌, ap₂, subst, Ok, Err, Result, ⊎_elim, IfOk, IfErr, arith}
+use Rattle.std.proofs.lemmas.List.{append_assoc, append-nil, length-append, length-take-le, length-drop, take_all, take_at, drop_at, drop-drop, drop_all}
 use Rattle.std.specs.List.{between}
+use lib.Bits.{bit_xor}
 use lib.Seq.{paste}
-use Rattle.cipher.specs.Block.{be_bytes, be_number, as_blocks, as_bytes}
+use Rattle.std.proofs.lemmas.Bool.{cond-true, cond-false, cases_Bool}
+use Rattle.refusal.specs.declared.cause.Refusal.{Refusal}
+use Rattle.refusal.specs.declared.cause.Refusal.TheVariants.{NotWholeBlocks}
+use Rattle.cipher.specs.Block.{be_bytes, be_number, as_blocks, as_bytes, is_whole}
 use Rattle.cipher.proofs.Numbers.{block_bytes}
-use Rattle.cipher.proofs.Wholes.{as_blocks-at, as_blocks-none}
+use Rattle.cipher.proofs.Wholes.{as_blocks-first, as_blocks-none, as_bytes-append, as_bytes-one}
+use Rattle.modes.specs.InPlace.{answered, left_by}
+use Rattle.modes.specs.Steps.{Makes}
 use Rattle.modes.specs.Ecb.{ecb}
 use Rattle.modes.specs.Cbc.{cbc_enciphered, cbc_deciphered}
 
--- A mode takes blocks to blocks from a state, which for CBC is the enciphered block before. What the walk keeps, of the
--- bytes as they were and as they are: what is written and what the mode makes of the rest are what it makes of all.
-pub record Walked (mode : ℕ → List ℕ → List ℕ) (start : ℕ) (was : List ℕ) (i state : ℕ) (is : List ℕ) : Type 0 where
-  pub rest : drop (8 * i) is ≡ drop (8 * i) was
-  pub front : take (8 * i) is ++ as_bytes (mode state (as_blocks (drop (8 * i) was))) ≡ as_bytes (mode start (as_blocks was))
+module _ {F : Type 0} (calls : F → ℕ → ℕ → F → Type 0) (start : F) (was : List ℕ) where
+  -- What the walk keeps, of the bytes as they were and as they are: from `at` on they are the same, before it stand the blocks
+  -- that were made, and behind these comes what the step, as it is now, makes of the others.
+  pub record Walked (at : ℕ) (now : F) (is : List ℕ) : Type 0 where
+    pub made : List ℕ
+    pub place : at ≡ 8 * length made
+    pub rest : drop at is ≡ drop at was
+    pub front : take at is ≡ as_bytes made
+    pub on : (more : List ℕ) → Makes calls now (as_blocks (drop at was)) more → Makes calls start (as_blocks was) (made ++ more)
 
-module _ (mode : ℕ → List ℕ → List ℕ) (start : ℕ) (was : List ℕ) where
-  pub walk_none : Walked mode start was 0 start was
-  walk_none = record { rest = refl; front = refl }
-
-  -- one block more: the mode makes `made` of the block, and goes on from another state
-  pub walk_more : (i state on : ℕ) (is next : List ℕ) (block made : ℕ) → Walked mode start was i state is
-      → length is ≡ length was → 8 * i + 8 ≤ length was → block ≡ be_number (between (8 * i) (8 * i + 8) is)
-      → ((more : List ℕ) → mode state (block ∷ more) ≡ made ∷ mode on more) → next ≡ paste is (8 * i) (be_bytes 8 made) 8
-      → Walked mode start was (i + 1) on next
+  pub walk_none : Walked 0 start was
   unfolding as_bytes
-  walk_more i state on is next block made w same room read step wrote =
-      let front = take (8 * i) is in
+  walk_none = record { made = []; place = refl; rest = refl; front = refl; on = λ more h. h }
+
+  -- one block more
+  pub walk_more : (at : ℕ) (now next : F) (is written : List ℕ) (block made : ℕ) → Walked at now is → length is ≡ length was → at + 8 ≤ length is
+      → block ≡ be_number (between at (at + 8) is) → calls now block made next → written ≡ paste is at (be_bytes 8 made) 8
+      → Walked (at + 8) next written
+  walk_more at now next is written block made w same room read call wrote =
+      let front = take at is in
       let bytes = be_bytes 8 made in
-      let after = drop (8 * i + 8) is in
-      let now-is : next ≡ (front ++ bytes) ++ after = wrote ∙ ap (λ z. (front ++ z) ++ after) (take_all 8 bytes (omega (arith, (block_bytes made).0))) in
-      let long : length (front ++ bytes) ≡ 8 * (i + 1) = length-append front bytes ∙ omega (arith, length-take-le (8 * i) is (omega arith), (block_bytes made).0) in
-      let past : 8 * i + 8 ≡ 8 * (i + 1) = omega arith in
-      let taken : take (8 * (i + 1)) next ≡ front ++ bytes = ap (take (8 * (i + 1))) now-is ∙ take_at (front ++ bytes) after (8 * (i + 1)) long in
-      let dropped : drop (8 * (i + 1)) next ≡ drop (8 * (i + 1)) is = ap (drop (8 * (i + 1))) now-is ∙ drop_at (front ++ bytes) after (8 * (i + 1)) long ∙ ap (λ k. drop k is) past in
-      let further : (xs : List ℕ) → drop (8 * (i + 1)) xs ≡ drop 8 (drop (8 * i) xs) = λ xs. ap (λ k. drop k xs) (sym past) ∙ sym (drop-drop 8 (8 * i) xs) in
-      let here : be_number (between (8 * i) (8 * i + 8) was) ≡ block = ap (λ z. be_number (take (8 * i + 8 - 8 * i) z)) (sym w.rest) ∙ sym read in
-      let blocks : as_blocks (drop (8 * i) was) ≡ block ∷ as_blocks (drop (8 * (i + 1)) was) = as_blocks-at i was room ∙ ap (λ z. z ∷ as_blocks (drop (8 * (i + 1)) was)) here in
-      let tail = as_bytes (mode on (as_blocks (drop (8 * (i + 1)) was))) in
+      let after = drop (at + 8) is in
+      let is_now : written ≡ (front ++ bytes) ++ after = wrote ∙ ap (λ z. (front ++ z) ++ after) (take_all 8 bytes (omega (arith, (block_bytes made).0))) in
+      let long : length (front ++ bytes) ≡ at + 8 = length-append front bytes ∙ omega (arith, length-take-le at is (omega arith), (block_bytes made).0) in
+      let eight : at + 8 - at ≡ 8 = omega arith in
+      let here : be_number (take 8 (drop at was)) ≡ block = ap₂ (λ n z. be_number (take n z)) (sym eight) (sym w.rest) ∙ sym read in
+      let blocks : as_blocks (drop at was) ≡ block ∷ as_blocks (drop (at + 8) was) =
+      as_blocks-first (drop at was) (omega (arith, length-drop at was)) ∙ ap₂ (λ b rest. b ∷ as_blocks rest) here (drop-drop 8 at was) in
       record {
-        rest = dropped ∙ further is ∙ ap (drop 8) w.rest ∙ sym (further was);
+        made = w.made ++ made ∷ [];
+        place = omega (arith, w.place, length-append w.made (made ∷ []));
+        rest = ap (drop (at + 8)) is_now ∙ drop_at (front ++ bytes) after (at + 8) long ∙ sym (drop-drop 8 at is) ∙ ap (drop 8) w.rest ∙ drop-drop 8 at was;
         front =
-            ap (λ z. z ++ tail) taken ∙ append_assoc front bytes tail ∙ ap (λ bs. front ++ as_bytes bs) (sym (step (as_blocks (drop (8 * (i + 1)) was))))
-            ∙ ap (λ bs. front ++ as_bytes (mode state bs)) (sym blocks) ∙ w.front;
+            ap (take (at + 8)) is_now ∙ take_at (front ++ bytes) after (at + 8) long
+            ∙ ap₂ (λ z y. z ++ y) w.front (sym (as_bytes-one made)) ∙ sym (as_bytes-append w.made (made ∷ []));
+        on = λ more h.
+            let all = w.on (made ∷ more) (subst (λ bs. Makes calls now bs (made ∷ more)) (sym blocks) (next, call, h)) in
+            subst (Makes calls start (as_blocks was)) (sym (append_assoc w.made (made ∷ []) more)) all;
       }
 
-  -- at the end of whole blocks
-  pub walk_all : (i state : ℕ) (is : List ℕ) → Walked mode start was i state is → length is ≡ length was → length was ≤ 8 * i
-      → mode state [] ≡ [] → is ≡ as_bytes (mode start (as_blocks was))
-  unfolding as_bytes
-  walk_all i state is w same done nothing =
-      let none : as_blocks (drop (8 * i) was) ≡ [] = ap as_blocks (drop_all (8 * i) was done) ∙ as_blocks-none [] (omega arith) in
-      sym (append-nil is)
-      ∙ ap₂ (λ z bs. z ++ as_bytes bs) (sym (take_all (8 * i) is (omega arith))) (sym nothing)
-      ∙ ap (λ bs. take (8 * i) is ++ as_bytes (mode state bs)) (sym none) ∙ w.front
+  -- at the end of the buffer
+  pub walk_all : (at : ℕ) (now : F) (is left : List ℕ) → Walked at now is → length is ≡ length was → length was ≤ at → left ≡ is
+      → (made : List ℕ) × Makes calls start (as_blocks was) made × (left ≡ as_bytes made)
+  walk_all at now is left w same done e =
+      let none : as_blocks (drop at was) ≡ [] = ap as_blocks (drop_all at was done) ∙ as_blocks-none [] (omega arith) in
+      let all = w.on [] (subst (λ bs. Makes calls now bs []) (sym none) tt) in
+      (w.made, subst (Makes calls start (as_blocks was)) (append-nil w.made) all, e ∙ sym (take_all at is (omega arith)) ∙ w.front)
 
--- ---- how each mode goes on by a block, and ends
+-- ---- what a step makes, where it does as a mode
 
-module _ (CIPH : ℕ → ℕ) (block made : ℕ) where
-  pub ecb-goes_on : made ≡ CIPH block → (more : List ℕ) → ecb CIPH (block ∷ more) ≡ made ∷ ecb CIPH more
+-- A mode that goes over blocks from a state, which for CBC is the enciphered block before: `makes` says what it makes of a block
+-- at a state, and `next` what state it goes on from.
+pub record GoesOver (mode : ℕ → List ℕ → List ℕ) (makes next : ℕ → ℕ → ℕ) : Type 0 where
+  pub none : (state : ℕ) → mode state [] ≡ []
+  pub more : (state block : ℕ) (blocks : List ℕ) → mode state (block ∷ blocks) ≡ makes state block ∷ mode (next state block) blocks
+
+module _ (CIPH : ℕ → ℕ) where
+  pub ecb-goes_over : GoesOver (λ state. ecb CIPH) (λ state block. CIPH block) (λ state block. state)
   unfolding ecb
-  ecb-goes_on e more = ap {B = List ℕ} (λ b. b ∷ ecb CIPH more) (sym e)
+  ecb-goes_over = record { none = λ state. refl; more = λ state block blocks. refl }
 
-  pub enciphering_goes_on : (before : ℕ) → made ≡ CIPH (bit_xor block before) → (more : List ℕ) → cbc_enciphered CIPH before (block ∷ more) ≡ made ∷ cbc_enciphered CIPH made more
+  pub enciphering_goes_over : GoesOver (cbc_enciphered CIPH) (λ before block. CIPH (bit_xor block before)) (λ before block. CIPH (bit_xor block before))
   unfolding cbc_enciphered
-  enciphering_goes_on before e more = ap {B = List ℕ} (λ b. b ∷ cbc_enciphered CIPH b more) (sym e)
+  enciphering_goes_over = record { none = λ before. refl; more = λ before block blocks. refl }
 
-  pub deciphering_goes_on : (before deciphered : ℕ) → deciphered ≡ CIPH block → made ≡ bit_xor deciphered before → (more : List ℕ) → cbc_deciphered CIPH before (block ∷ more) ≡ made ∷ cbc_deciphered CIPH block more
+  pub deciphering_goes_over : GoesOver (cbc_deciphered CIPH) (λ before block. bit_xor (CIPH block) before) (λ before block. block)
   unfolding cbc_deciphered
-  deciphering_goes_on before deciphered d e more = ap {B = List ℕ} (λ b. b ∷ cbc_deciphered CIPH block more) (ap (λ z. bit_xor z before) (sym d) ∙ sym e)
+  deciphering_goes_over = record { none = λ before. refl; more = λ before block blocks. refl }
 
-pub ecb-ends : (CIPH : ℕ → ℕ) → ecb CIPH [] ≡ []
-unfolding ecb
-ecb-ends CIPH = refl
+-- `At` ties the step, as it is, to the state: a call makes what the mode makes, and leaves the step at the next state.
+module _ {F : Type 0} {calls : F → ℕ → ℕ → F → Type 0} {mode : ℕ → List ℕ → List ℕ} {makes next : ℕ → ℕ → ℕ} (over : GoesOver mode makes next)
+    (At : F → ℕ → Type 0) (steps : (f : F) (state block made : ℕ) (g : F) → At f state → calls f block made g → (made ≡ makes state block) × At g (next state block)) where
+  made_by_mode : (blocks made : List ℕ) (f : F) (state : ℕ) → At f state → Makes calls f blocks made → made ≡ mode state blocks
+  made_by_mode [] [] f state at m = sym (over.none state)
+  made_by_mode [] (c ∷ cs) f state at m = absurd m
+  made_by_mode (b ∷ bs) [] f state at m = absurd m
+  made_by_mode (b ∷ bs) (c ∷ cs) f state at (g, call, m) =
+      let on = steps f state b c g at call in
+      ap₂ {C = List ℕ} (λ z zs. z ∷ zs) on.0 (made_by_mode bs cs g (next state b) on.1 m) ∙ sym (over.more state b bs)
 
-pub enciphering_ends : (CIPH : ℕ → ℕ) (before : ℕ) → cbc_enciphered CIPH before [] ≡ []
-unfolding cbc_enciphered
-enciphering_ends CIPH before = refl
-
-pub deciphering_ends : (CIPH : ℕ → ℕ) (before : ℕ) → cbc_deciphered CIPH before [] ≡ []
-unfolding cbc_deciphered
-deciphering_ends CIPH before = refl
+  -- the buffer is then left as by the mode
+  pub left_by_mode : (state : ℕ) (buffer : List ℕ) {f : F} {left : List ℕ} {result : Result (Unit {0}) Refusal} → At f state → result ≡ answered buffer
+      → IfOk result (λ _. (made : List ℕ) × Makes calls f (as_blocks buffer) made × (left ≡ as_bytes made)) → IfErr result (λ _. left ≡ buffer)
+      → left ≡ left_by (mode state) buffer
+  left_by_mode state buffer {f} {left} {result} at e ok err =
+      let blocks = as_blocks buffer in
+      let walked = as_bytes (mode state blocks) in
+      ⊎_elim
+      (λ whole.
+      let m = subst (λ r. IfOk r (λ _. (made : List ℕ) × Makes calls f blocks made × (left ≡ as_bytes made))) (e ∙ cond-true (is_whole buffer) (Ok tt) (Err NotWholeBlocks) whole) ok in
+      m.2 ∙ ap as_bytes (made_by_mode blocks m.0 f state at m.1) ∙ sym (cond-true (is_whole buffer) walked buffer whole))
+      (λ ragged.
+      subst (λ r. IfErr r (λ _. left ≡ buffer)) (e ∙ cond-false (is_whole buffer) (Ok tt) (Err NotWholeBlocks) ragged) err
+      ∙ sym (cond-false (is_whole buffer) walked buffer ragged))
+      (cases_Bool (is_whole buffer))

@@ -1,4 +1,5 @@
 pub mod InPlace
+pub mod Steps
 pub mod Ecb
 pub mod Cbc
 pub mod Cmac

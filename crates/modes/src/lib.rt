@@ -9,8 +9,8 @@
 
 mod cbc;
 mod ecb;
+mod in_place;
 mod tag;
-mod whole;
 
 pub use cbc::{cbc_decipher, cbc_encipher};
 pub use ecb::{ecb_decipher, ecb_encipher};

@@ -5,7 +5,7 @@ ghost use Rattle.std.specs.List.{AllByRecursion};
 ghost use Rattle.cipher.specs.Block.{Byte, Block, be_bytes, be_number, DifferInOneBlock};
 ghost use Rattle.modes.specs.Cmac.{doubled, padded, last_block, tag_from, CMAC};
 
-use cipher::{Cipher, block_at, block_of};
+use cipher::{Cipher, block_of};
 
 // The tag of a message of any length, with all 64 bits kept. It never refuses.
 // - value: it is the CMAC of the message;
@@ -16,13 +16,13 @@ pub fn cmac<C: Cipher>(cipher: &C, message: &[u8]) -> u64
     ensures one_block_tells { (other : List ℕ) → AllByRecursion Byte other → DifferInOneBlock message.now other → result ≢ CMAC (C.enciphered (C.key cipher.now)) other }
     ensures from_header { (header : ℕ) (body : List ℕ) → Block header → 0 < length body → message.now ≡ be_bytes 8 header ++ body → result ≡ tag_from (C.enciphered (C.key cipher.now)) (C.enciphered (C.key cipher.now) header) body }
 {
-    let before = message.len().saturating_sub(1) / 8;
-    let mut chain = 0u64;
-    for i in 0..before {
-        chain = cipher.encipher(chain ^ block_at(message, 8 * i));
+    let mut chain = 0;
+    let mut left = message;
+    while let Some((block, rest)) = left.split_first_chunk() && !rest.is_empty() {
+        chain = cipher.encipher(chain ^ block_of(*block));
+        left = rest;
     }
-    let last = last_block(cipher, &message[8 * before..]);
-    cipher.encipher(chain ^ last)
+    cipher.encipher(chain ^ last_block(cipher, left))
 }
 
 // The last block as it goes into the chain, from the bytes that are left for it: a whole block under the first subkey,
@@ -33,10 +33,9 @@ fn last_block<C: Cipher>(cipher: &C, bytes: &[u8]) -> u64
 {
     let k1 = double(cipher.encipher(0));
     let k2 = double(k1);
-    if bytes.len() == 8 {
-        k1 ^ block_at(bytes, 0)
-    } else {
-        k2 ^ padded_block(bytes)
+    match bytes.as_array() {
+        Some(block) => k1 ^ block_of(*block),
+        None => k2 ^ padded_block(bytes),
     }
 }
 
@@ -65,8 +64,7 @@ fn padded_block(bytes: &[u8]) -> u64
     ensures { result ≡ be_number (padded bytes.now) }
 {
     let mut block = [0u8; 8];
-    let count = bytes.len();
-    block[0..count].copy_from_slice(bytes);
-    block[count] = PADDING;
+    block[..bytes.len()].copy_from_slice(bytes);
+    block[bytes.len()] = PADDING;
     block_of(block)
 }

@@ -1,23 +1,18 @@
-use Rattle.std.proofs.Common.{ap, ◌∙◌, arith, rules}
+use Rattle.std.proofs.Common.{◌≡◌, refl, rules, arith}
+use Rattle.cipher.proofs.Inverses.{turned}
 use Rattle.cipher.proofs.Rows.{of_slice}
-use Rattle.modes.specs.InPlace.{left_by}
-use Rattle.modes.specs.Cbc.{cbc_enciphered, cbc_deciphered}
-use Rattle.modes.proofs.Undone.{granted_whole, left_whole, left_undone, cbc_redone}
+use Rattle.modes.specs.contracts.cbc.fn.cbc_decipher.in_place as closure
+use Rattle.modes.proofs.Undone.{left_undone, ecb-undone, cbc_undone, cbc_redone}
+use Rattle.modes.proofs.Walk.{left_by_mode, deciphering_goes_over}
 use Rattle.modes.proofs.cbc.cbc_decipher.Goals as goal
 
-pub returns : goal.returns
-returns g c =
-    let m = g.C.Cipher in
-    let k = m.key c.args.cipher.now in
-    let law = g.met.C.Cipher.lawful k (g.met.C.Cipher.keyed c.args.cipher.now) in
-    let start = c.args.start in
-    let there = cbc_deciphered (m.deciphered k) start in
-    let back = cbc_enciphered (m.enciphered k) start in
-    let buffer = c.args.buffer.now in
-    let whole = granted_whole buffer c.in_ok-whole_blocks.ensures in
-    let left = left_whole there buffer c.decipher_chained.new.blocks whole c.decipher_chained.ensures in
-    record {
-      result = c.in_ok-whole_blocks.ensures;
-      written = left;
-      undone = ap (left_by back) left ∙ left_undone there back (cbc_redone (m.enciphered k) (m.deciphered k) law start (omega arith)) buffer (of_slice buffer (λ i. search rules));
-    }
+pub returns-clause-written : goal.returns-clause-written
+returns-clause-written g c =
+    let o : closure.Over = record { C = g.row.C; C-Cipher = g.C.Cipher; C-Cipher-dict = g.C.Cipher-dict } in
+    left_by_mode (deciphering_goes_over _) (λ f before. let l = closure.captures o f in (l.cipher.now ≡ c.args.cipher.now) × (l.before ≡ before)) (λ f before block made next at call. search rules)
+    c.args.start c.args.buffer.now (refl, refl) c.in_place.ensures.result c.in_place.ensures.written c.in_place.ensures.refused
+
+pub returns-clause-undone : goal.returns-clause-undone
+returns-clause-undone g c =
+    let law = g.met.C.Cipher.lawful _ (g.met.C.Cipher.keyed c.args.cipher.now) in
+    left_undone (cbc_redone _ _ law c.args.start (omega arith)) (of_slice _ (λ i. search rules)) (returns-clause-written g c)

@@ -1,21 +1,18 @@
-use Rattle.std.proofs.Common.{ap, ◌∙◌, rules}
+use Rattle.std.proofs.Common.{◌≡◌, refl, rules, arith}
 use Rattle.cipher.proofs.Inverses.{turned}
 use Rattle.cipher.proofs.Rows.{of_slice}
-use Rattle.modes.specs.InPlace.{left_by}
-use Rattle.modes.specs.Ecb.{ecb}
-use Rattle.modes.proofs.Undone.{granted_whole, left_whole, left_undone, ecb-undone}
+use Rattle.modes.specs.contracts.ecb.fn.ecb_decipher.in_place as closure
+use Rattle.modes.proofs.Undone.{left_undone, ecb-undone, cbc_undone, cbc_redone}
+use Rattle.modes.proofs.Walk.{left_by_mode, ecb-goes_over}
 use Rattle.modes.proofs.ecb.ecb_decipher.Goals as goal
 
-pub returns : goal.returns
-returns g c =
-    let m = g.C.Cipher in
-    let k = m.key c.args.cipher.now in
-    let law = g.met.C.Cipher.lawful k (g.met.C.Cipher.keyed c.args.cipher.now) in
-    let buffer = c.args.buffer.now in
-    let whole = granted_whole buffer c.in_ok-whole_blocks.ensures in
-    let left = left_whole (ecb (m.deciphered k)) buffer c.decipher_each.new.blocks whole c.decipher_each.ensures in
-    record {
-      result = c.in_ok-whole_blocks.ensures;
-      written = left;
-      undone = ap (left_by (ecb (m.enciphered k))) left ∙ left_undone (ecb (m.deciphered k)) (ecb (m.enciphered k)) (ecb-undone (m.deciphered k) (m.enciphered k) (turned law)) buffer (of_slice buffer (λ i. search rules));
-    }
+pub returns-clause-written : goal.returns-clause-written
+returns-clause-written g c =
+    let o : closure.Over = record { C = g.row.C; C-Cipher = g.C.Cipher; C-Cipher-dict = g.C.Cipher-dict } in
+    left_by_mode (ecb-goes_over _) (λ f state. let l = closure.captures o f in l.cipher.now ≡ c.args.cipher.now) (λ f state block made next at call. search rules)
+    0 c.args.buffer.now refl c.in_place.ensures.result c.in_place.ensures.written c.in_place.ensures.refused
+
+pub returns-clause-undone : goal.returns-clause-undone
+returns-clause-undone g c =
+    let law = g.met.C.Cipher.lawful _ (g.met.C.Cipher.keyed c.args.cipher.now) in
+    left_undone (ecb-undone _ _ (turned law)) (of_slice _ (λ i. search rules)) (returns-clause-written g c)

@@ -1,33 +1,24 @@
-use Rattle.std.proofs.Common.{◌/◌, sym, ap, ◌∙◌, arith}
+use Rattle.std.proofs.Common.{refl, sym, ap, ap₂, ◌∙◌, arith, rules}
 use Rattle.cipher.proofs.Rows.{of_slice}
-use Rattle.modes.specs.Cmac.{CMAC}
-use Rattle.modes.proofs.Tags.{chained-none, chained_more, tagged, one_block_tells, tag_of_header_and_body}
+use Rattle.cipher.specs.Block.{be_number}
+use Rattle.modes.specs.Cmac.{CMAC, tag_from}
+use Rattle.modes.proofs.Tags.{short_tag, long_tag, one_block_tells, tag_of_header_and_body}
 use Rattle.modes.proofs.tag.cmac.Goals as goal
 
-pub loop-i-init : goal.loop-i-init
-loop-i-init g c =
-    let m = g.C.Cipher in
-    (omega arith, chained-none (m.enciphered (m.key c.args.cipher.now)) 0 c.args.message.now)
+pub loop-block-init : goal.loop-block-init
+unfolding CMAC
+loop-block-init g c = refl
 
-pub loop-i-preserved : goal.loop-i-preserved
-loop-i-preserved g c =
-    let m = g.C.Cipher in (
-      c.encipher-chain.type_inv,
-      chained_more (m.enciphered (m.key c.args.cipher.now)) c.loop-i.i 0 c.loop-i.chain c.block_at.result c.encipher-chain.result c.args.message.now
-          c.loop-i.invariant.1 c.block_at.ensures c.encipher-chain.ensures,
-    )
+pub loop-block-preserved : goal.loop-block-preserved
+loop-block-preserved g c = search (rules, long_tag)
 
-pub returns : goal.returns
-returns g c =
-    let m = g.C.Cipher in
-    let k = m.key c.args.cipher.now in
-    let law = g.met.C.Cipher.lawful k (g.met.C.Cipher.keyed c.args.cipher.now) in
-    let message = c.args.message.now in
-    let value =
-    tagged (m.enciphered k) c.loop-i.i (c.saturating_sub-before.result / 8) c.loop-i.chain c.last_block-last.result c.encipher.result message
-    (omega arith) (omega arith) c.loop-i.invariant.1 c.last_block-last.ensures c.encipher.ensures in
-    record {
-      value = value;
-      one_block_tells = λ other each d same. one_block_tells (m.enciphered k) (m.deciphered k) law message other (of_slice message c.type_inv.message) each d (sym value ∙ same);
-      from_header = λ header body h some split. value ∙ ap (CMAC (m.enciphered k)) split ∙ tag_of_header_and_body (m.enciphered k) header body h some;
-    }
+pub returns-clause-value : goal.returns-clause-value
+returns-clause-value g c = search (rules, short_tag)
+
+pub returns-clause-one_block_tells : goal.returns-clause-one_block_tells
+returns-clause-one_block_tells g c = 
+    let law = g.met.C.Cipher.lawful _ (g.met.C.Cipher.keyed c.args.cipher.now) in
+    λ other each d same. one_block_tells _ _ law c.args.message.now other (of_slice _ c.type_inv.message) each d (sym (returns-clause-value g c) ∙ same)
+
+pub returns-clause-from_header : goal.returns-clause-from_header
+returns-clause-from_header g c = λ header body h some split. returns-clause-value g c ∙ ap (CMAC _) split ∙ tag_of_header_and_body _ header body h some

@@ -1,9 +1,12 @@
-use Rattle.std.proofs.Common.{◌≡◌}
-use Rattle.cipher.specs.Block.{Block, first_blocks}
-use Rattle.modes.specs.Cmac.{chained}
+use Rattle.std.proofs.Common.{◌≡◌, length}
+use Rattle.modes.specs.Cmac.{tag_from, CMAC}
 use Rattle.modes.proofs.tag.cmac.Given as goal
 
-abbrev pub invariant-loop-i : goal.invariant-loop-i
-invariant-loop-i g l =
+abbrev pub invariant-loop-block : goal.invariant-loop-block
+invariant-loop-block g l =
     let m = g.C.Cipher in
-    Block l.chain × (l.chain ≡ chained (m.enciphered (m.key l.cipher)) 0 (first_blocks l.i l.message))
+    let CIPH = m.enciphered (m.key l.cipher) in
+    tag_from CIPH l.chain l.left ≡ CMAC CIPH l.message
+
+abbrev pub decreases-loop-block : goal.decreases-loop-block
+decreases-loop-block g l = length l.left
