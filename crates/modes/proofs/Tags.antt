@@ -1,18 +1,17 @@
 -- Laws of CMAC: how a tag is made step by step, how it splits at a header, and that one block tells two messages apart.
-use Rattle.std.proofs.Common.{◌≡◌, ℕ, zero, suc, ◌+◌, ◌-◌, ◌*◌, ◌%◌, ◌^◌, ◌<◌, ◌≤◌, eqb, leb, List, [], ◌∷◌, ◌++◌, length, take, drop, set, replicate, sym, refl, ap, ◌∙◌, subst, ap₂, ⊎_elim, arith, lit<}
+use Rattle.std.proofs.Common.{◌≡◌, ℕ, zero, suc, ◌+◌, ◌-◌, ◌*◌, ◌%◌, ◌^◌, ◌<◌, ◌≤◌, eqb, leb, List, [], ◌∷◌, ◌++◌, length, take, drop, replicate, sym, ap, ◌∙◌, subst, ap₂, ⊎_elim, arith, lit<}
 use lib.Bits.{bit_xor, xor_zero_l, xor_lt}
 use Rattle.std.proofs.lemmas.Nat.{mod_below}
 use Rattle.std.proofs.ByRecursion.{All-append, All-drop}
-use Rattle.std.proofs.lemmas.List.{append_cancel_right, length-append, length-drop, length-replicate, take_all, take-take, take-append-drop, take_rest, drop-take, take_at, drop_at, drop-drop, drop-replicate, set_at}
+use Rattle.std.proofs.lemmas.List.{append_cancel_right, length-append, length-drop, length-replicate, take-take, take-append-drop, drop-take, take_at, drop_at, drop-drop}
 use Rattle.std.proofs.lemmas.Bool.{cond_both, cond-true, cond-false, cases_lt, cases_eq, eq-eqb, ne_eqb}
-use Rattle.std.specs.List.{between, AllByRecursion}
-use borrow.Rule.Slice.PartMut.{post_of}
+use Rattle.std.specs.List.{AllByRecursion}
 use Rattle.cipher.specs.Block.{Byte, Bytes, Block, be_bytes, be_number, first_blocks, DifferInOneBlock}
 use Rattle.cipher.specs.Inverse.{Inverse}
 use Rattle.cipher.proofs.Inverses.{apart}
-use Rattle.cipher.proofs.Numbers.{block_bytes, block_of_bytes, bytes_of_block, number_block, same_number}
+use Rattle.cipher.proofs.Numbers.{block_bytes, block_of_bytes, number_block, same_number}
 use Rattle.cipher.proofs.Rows.{xor_cancel, xor_cancel_right, zeros}
-use Rattle.cipher.proofs.Wholes.{first_blocks-blocks, first_blocks-of_bytes, first_blocks-more, first_eight}
+use Rattle.cipher.proofs.Wholes.{first_blocks-blocks, first_eight}
 use Rattle.modes.specs.Cmac.{doubled, before_last, padded, K1, K2, last_block, chained, tag_from, CMAC}
 
 -- ---- the parts are blocks
@@ -29,13 +28,6 @@ padded-bytes bytes each few = (
   All-append Byte bytes (0x80 ∷ replicate (7 - length bytes) 0) each (lit< tt, zeros (7 - length bytes)),
 )
 
--- bytes over eight zeros, and the bit 1 behind them, are padded
-pub padded-over_zeros : (bytes copied : List ℕ) (k : ℕ) → copied ≡ bytes → k ≡ length bytes → length bytes < 8 → set (copied ++ post_of 0 k (replicate 8 0)) (length bytes) 0x80 ≡ padded bytes
-padded-over_zeros bytes copied k same count few =
-    let left : 8 - k ≡ suc (7 - length bytes) = omega arith in
-    ap₂ (λ xs ys. set (xs ++ ys) (length bytes) 0x80) same (drop-replicate k 8 0 ∙ ap (λ n. replicate n 0) left)
-    ∙ set_at bytes 0 (replicate (7 - length bytes) 0) 0x80 (length bytes) refl
-
 module _ (CIPH : ℕ → ℕ) where
   whole_last : (bytes : List ℕ) → length bytes ≡ 8 → last_block CIPH bytes ≡ bit_xor (K1 CIPH) (be_number bytes)
   unfolding last_block
@@ -44,17 +36,6 @@ module _ (CIPH : ℕ → ℕ) where
   short_last : (bytes : List ℕ) → (length bytes ≡ 8 → ⊥) → last_block CIPH bytes ≡ bit_xor (K2 CIPH) (be_number (padded bytes))
   unfolding last_block
   short_last bytes short = cond-false (eqb (length bytes) 8) (bit_xor (K1 CIPH) (be_number bytes)) (bit_xor (K2 CIPH) (be_number (padded bytes))) (ne_eqb (length bytes) 8 short)
-
-  -- how the last block is made, step by step
-  module _ (bytes : List ℕ) (L k1 k2 block : ℕ) (l : L ≡ CIPH 0) (one : k1 ≡ doubled L) (two : k2 ≡ doubled k1) where
-    is_K1 : k1 ≡ K1 CIPH
-    is_K1 = one ∙ ap doubled l
-
-    pub last_of_eight : length bytes ≡ 8 → block ≡ be_number bytes → bit_xor k1 block ≡ last_block CIPH bytes
-    last_of_eight whole read = ap₂ bit_xor is_K1 read ∙ sym (whole_last bytes whole)
-
-    pub last_of_fewer : (length bytes ≡ 8 → ⊥) → block ≡ be_number (padded bytes) → bit_xor k2 block ≡ last_block CIPH bytes
-    last_of_fewer short read = ap₂ bit_xor (two ∙ ap doubled is_K1) read ∙ sym (short_last bytes short)
 
   last_is_block : (bytes : List ℕ) → AllByRecursion Byte bytes → length bytes ≤ 8 → Block (last_block CIPH bytes)
   last_is_block bytes each few =

@@ -1,14 +1,13 @@
 -- Deciphering undoes enciphering, and the other way round: ECB, and CBC from every starting block.
-use Rattle.std.proofs.Common.{◌≡◌, ℕ, suc, ◌%◌, List, [], ◌∷◌, length, Ok, Err, sym, refl, ap, ◌∙◌, ap₂, ⊎_elim, arith}
+use Rattle.std.proofs.Common.{◌≡◌, ℕ, suc, ◌%◌, List, [], ◌∷◌, length, refl, ap, ◌∙◌, ap₂, ⊎_elim, arith}
 use lib.Bits.{bit_xor, xor_lt}
 use Rattle.std.proofs.lemmas.Bool.{cond-true, cond-false, cases_Bool, eq-eqb, eqb-true}
 use Rattle.std.specs.List.{AllByRecursion}
-use Rattle.refusal.specs.declared.cause.Refusal.TheVariants.{NotWholeBlocks}
 use Rattle.cipher.specs.Block.{Byte, Block, as_blocks, as_bytes, is_whole}
 use Rattle.cipher.specs.Inverse.{Inverse}
 use Rattle.cipher.proofs.Rows.{xor_twice}
 use Rattle.cipher.proofs.Wholes.{length-as_bytes, as_blocks-blocks, as_blocks-as_bytes, as_bytes-as_blocks}
-use Rattle.modes.specs.InPlace.{answered, left_by}
+use Rattle.modes.specs.InPlace.{left_by}
 use Rattle.modes.specs.Ecb.{ecb}
 use Rattle.modes.specs.Cbc.{cbc_enciphered, cbc_deciphered}
 

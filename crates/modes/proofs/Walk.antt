@@ -1,5 +1,5 @@
 -- A walk over a buffer, block after block, that writes what a step makes of each.
-use Rattle.std.proofs.Common.{◌≡◌, ℕ, ◌+◌, ◌-◌, ◌*◌, ◌≤◌, ◌<◌, ◌%◌, List, [], ◌∷◌, ◌++◌, length, take, drop, sym, refl, ap, ◌∙◌, ap₂, subst, Ok, Err, Result, ⊎_elim, IfOk, IfErr, arith}
+use Rattle.std.proofs.Common.{◌≡◌, ℕ, ◌+◌, ◌-◌, ◌*◌, ◌≤◌, List, [], ◌∷◌, ◌++◌, length, take, drop, sym, refl, ap, ◌∙◌, ap₂, subst, Ok, Err, Result, ⊎_elim, IfOk, IfErr, arith}
 use Rattle.std.proofs.lemmas.List.{append_assoc, append-nil, length-append, length-take-le, length-drop, take_all, take_at, drop_at, drop-drop, drop_all}
 use Rattle.std.specs.List.{between}
 use lib.Bits.{bit_xor}
@@ -15,25 +15,25 @@ use Rattle.modes.specs.Steps.{Makes}
 use Rattle.modes.specs.Ecb.{ecb}
 use Rattle.modes.specs.Cbc.{cbc_enciphered, cbc_deciphered}
 
-module _ {F : Type 0} (calls : F → ℕ → ℕ → F → Type 0) (start : F) (was : List ℕ) where
-  -- What the walk keeps, of the bytes as they were and as they are: from `at` on they are the same, before it stand the blocks
-  -- that were made, and behind these comes what the step, as it is now, makes of the others.
-  pub record Walked (at : ℕ) (now : F) (is : List ℕ) : Type 0 where
-    pub made : List ℕ
-    pub place : at ≡ 8 * length made
-    pub rest : drop at is ≡ drop at was
-    pub front : take at is ≡ as_bytes made
-    pub on : (more : List ℕ) → Makes calls now (as_blocks (drop at was)) more → Makes calls start (as_blocks was) (made ++ more)
+-- What the walk keeps, of the bytes as they were and as they are: from `at` on they are the same, before it stand the blocks
+-- that were made, and behind these comes what the step, as it is now, makes of the others.
+pub record Walked {F : Type 0} (calls : F → ℕ → ℕ → F → Type 0) (start : F) (was : List ℕ) (at : ℕ) (now : F) (is : List ℕ) : Type 0 where
+  pub made : List ℕ
+  pub place : at ≡ 8 * length made
+  pub rest : drop at is ≡ drop at was
+  pub front : take at is ≡ as_bytes made
+  pub on : (more : List ℕ) → Makes calls now (as_blocks (drop at was)) more → Makes calls start (as_blocks was) (made ++ more)
 
-  pub walk_none : Walked 0 start was
+module _ {F : Type 0} {calls : F → ℕ → ℕ → F → Type 0} {start : F} {was : List ℕ} where
+  pub walk_none : Walked calls start was 0 start was
   unfolding as_bytes
   walk_none = record { made = []; place = refl; rest = refl; front = refl; on = λ more h. h }
 
   -- one block more
-  pub walk_more : (at : ℕ) (now next : F) (is written : List ℕ) (block made : ℕ) → Walked at now is → length is ≡ length was → at + 8 ≤ length is
+  pub walk_more : {at : ℕ} {now next : F} {is written : List ℕ} {block made : ℕ} → Walked calls start was at now is → length is ≡ length was → at + 8 ≤ length is
       → block ≡ be_number (between at (at + 8) is) → calls now block made next → written ≡ paste is at (be_bytes 8 made) 8
-      → Walked (at + 8) next written
-  walk_more at now next is written block made w same room read call wrote =
+      → Walked calls start was (at + 8) next written
+  walk_more {at} {now} {next} {is} {written} {block} {made} w same room read call wrote =
       let front = take at is in
       let bytes = be_bytes 8 made in
       let after = drop (at + 8) is in
@@ -56,9 +56,9 @@ module _ {F : Type 0} (calls : F → ℕ → ℕ → F → Type 0) (start : F) (
       }
 
   -- at the end of the buffer
-  pub walk_all : (at : ℕ) (now : F) (is left : List ℕ) → Walked at now is → length is ≡ length was → length was ≤ at → left ≡ is
+  pub walk_all : {at : ℕ} {now : F} {is left : List ℕ} → Walked calls start was at now is → length is ≡ length was → length was ≤ at → left ≡ is
       → (made : List ℕ) × Makes calls start (as_blocks was) made × (left ≡ as_bytes made)
-  walk_all at now is left w same done e =
+  walk_all {at} {now} {is} {left} w same done e =
       let none : as_blocks (drop at was) ≡ [] = ap as_blocks (drop_all at was done) ∙ as_blocks-none [] (omega arith) in
       let all = w.on [] (subst (λ bs. Makes calls now bs []) (sym none) tt) in
       (w.made, subst (Makes calls start (as_blocks was)) (append-nil w.made) all, e ∙ sym (take_all at is (omega arith)) ∙ w.front)

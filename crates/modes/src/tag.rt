@@ -18,7 +18,9 @@ pub fn cmac<C: Cipher>(cipher: &C, message: &[u8]) -> u64
 {
     let mut chain = 0;
     let mut left = message;
-    while let Some((block, rest)) = left.split_first_chunk() && !rest.is_empty() {
+    while let Some((block, rest)) = left.split_first_chunk()
+        && !rest.is_empty()
+    {
         chain = cipher.encipher(chain ^ block_of(*block));
         left = rest;
     }
@@ -27,6 +29,7 @@ pub fn cmac<C: Cipher>(cipher: &C, message: &[u8]) -> u64
 
 // The last block as it goes into the chain, from the bytes that are left for it: a whole block under the first subkey,
 // fewer bytes padded under the second.
+#[tactic(auto, unfolding(crate::specs::Cmac::last_block))]
 fn last_block<C: Cipher>(cipher: &C, bytes: &[u8]) -> u64
     requires { length bytes.now ≤ 8 }
     ensures { result ≡ last_block (C.enciphered (C.key cipher.now)) bytes.now }
@@ -45,6 +48,7 @@ const TOP_BIT: u64 = 0x8000_0000_0000_0000;
 const REDUCTION: u64 = 0x1B;
 
 // Twice a block: shifted left by one, and 0x1B added where the top bit was set.
+#[tactic(auto, unfolding(crate::specs::Cmac::doubled))]
 fn double(block: u64) -> u64
     ensures { result ≡ doubled block }
 {

@@ -1,8 +1,7 @@
 use Rattle.std.proofs.Common.{◌≡◌, refl, rules, arith}
-use Rattle.cipher.proofs.Inverses.{turned}
 use Rattle.cipher.proofs.Rows.{of_slice}
 use Rattle.modes.specs.contracts.cbc.fn.cbc_decipher.in_place as closure
-use Rattle.modes.proofs.Undone.{left_undone, ecb-undone, cbc_undone, cbc_redone}
+use Rattle.modes.proofs.Undone.{left_undone, cbc_redone}
 use Rattle.modes.proofs.Walk.{left_by_mode, deciphering_goes_over}
 use Rattle.modes.proofs.cbc.cbc_decipher.Goals as goal
 

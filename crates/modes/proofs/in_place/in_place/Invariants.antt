@@ -1,4 +1,3 @@
-use Rattle.std.proofs.Common.{◌≡◌, ℕ, List, length, MatchResult, ◌+◌, ◌-◌, ◌*◌, ◌<◌, ◌≤◌}
 use Rattle.modes.proofs.Walk.{Walked}
 use Rattle.modes.proofs.in_place.in_place.Given as goal
 

@@ -1,7 +1,6 @@
-use Rattle.std.proofs.Common.{refl, sym, ap, ap₂, ◌∙◌, arith, rules}
+use Rattle.std.proofs.Common.{refl, sym, ap, ◌∙◌, rules}
 use Rattle.cipher.proofs.Rows.{of_slice}
-use Rattle.cipher.specs.Block.{be_number}
-use Rattle.modes.specs.Cmac.{CMAC, tag_from}
+use Rattle.modes.specs.Cmac.{CMAC}
 use Rattle.modes.proofs.Tags.{short_tag, long_tag, one_block_tells, tag_of_header_and_body}
 use Rattle.modes.proofs.tag.cmac.Goals as goal
 
@@ -16,7 +15,7 @@ pub returns-clause-value : goal.returns-clause-value
 returns-clause-value g c = search (rules, short_tag)
 
 pub returns-clause-one_block_tells : goal.returns-clause-one_block_tells
-returns-clause-one_block_tells g c = 
+returns-clause-one_block_tells g c =
     let law = g.met.C.Cipher.lawful _ (g.met.C.Cipher.keyed c.args.cipher.now) in
     λ other each d same. one_block_tells _ _ law c.args.message.now other (of_slice _ c.type_inv.message) each d (sym (returns-clause-value g c) ∙ same)
 
