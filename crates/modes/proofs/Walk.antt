@@ -11,7 +11,7 @@ use Rattle.cipher.specs.Block.{be_bytes, be_number, as_blocks, as_bytes, is_whol
 use Rattle.cipher.proofs.Numbers.{block_bytes}
 use Rattle.cipher.proofs.Wholes.{as_blocks-first, as_blocks-none, as_bytes-append, as_bytes-one}
 use Rattle.modes.specs.InPlace.{answered, left_by}
-use Rattle.modes.specs.Steps.{Makes}
+use Rattle.modes.specs.Steps.{Makes, LeftByCalls}
 use Rattle.modes.specs.Ecb.{ecb}
 use Rattle.modes.specs.Cbc.{cbc_enciphered, cbc_deciphered}
 
@@ -56,8 +56,7 @@ module _ {F : Type 0} {calls : F → ℕ → ℕ → F → Type 0} {start : F} {
       }
 
   -- at the end of the buffer
-  pub walk_all : {at : ℕ} {now : F} {is left : List ℕ} → Walked calls start was at now is → length is ≡ length was → length was ≤ at → left ≡ is
-      → (made : List ℕ) × Makes calls start (as_blocks was) made × (left ≡ as_bytes made)
+  pub walk_all : {at : ℕ} {now : F} {is left : List ℕ} → Walked calls start was at now is → length is ≡ length was → length was ≤ at → left ≡ is → LeftByCalls calls start was left
   walk_all {at} {now} {is} {left} w same done e =
       let none : as_blocks (drop at was) ≡ [] = ap as_blocks (drop_all at was done) ∙ as_blocks-none [] (omega arith) in
       let all = w.on [] (subst (λ bs. Makes calls now bs []) (sym none) tt) in
@@ -97,14 +96,14 @@ module _ {F : Type 0} {calls : F → ℕ → ℕ → F → Type 0} {mode : ℕ �
 
   -- the buffer is then left as by the mode
   pub left_by_mode : (state : ℕ) (buffer : List ℕ) {f : F} {left : List ℕ} {result : Result (Unit {0}) Refusal} → At f state → result ≡ answered buffer
-      → IfOk result (λ _. (made : List ℕ) × Makes calls f (as_blocks buffer) made × (left ≡ as_bytes made)) → IfErr result (λ _. left ≡ buffer)
+      → IfOk result (λ _. LeftByCalls calls f buffer left) → IfErr result (λ _. left ≡ buffer)
       → left ≡ left_by (mode state) buffer
   left_by_mode state buffer {f} {left} {result} at e ok err =
       let blocks = as_blocks buffer in
       let walked = as_bytes (mode state blocks) in
       ⊎_elim
       (λ whole.
-      let m = subst (λ r. IfOk r (λ _. (made : List ℕ) × Makes calls f blocks made × (left ≡ as_bytes made))) (e ∙ cond-true (is_whole buffer) (Ok tt) (Err NotWholeBlocks) whole) ok in
+      let m = subst (λ r. IfOk r (λ _. LeftByCalls calls f buffer left)) (e ∙ cond-true (is_whole buffer) (Ok tt) (Err NotWholeBlocks) whole) ok in
       m.2 ∙ ap as_bytes (made_by_mode blocks m.0 f state at m.1) ∙ sym (cond-true (is_whole buffer) walked buffer whole))
       (λ ragged.
       subst (λ r. IfErr r (λ _. left ≡ buffer)) (e ∙ cond-false (is_whole buffer) (Ok tt) (Err NotWholeBlocks) ragged) err
