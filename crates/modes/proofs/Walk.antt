@@ -1,5 +1,5 @@
 -- A walk over a buffer, block after block, that writes what a step makes of each.
-use Rattle.std.proofs.Common.{◌≡◌, ℕ, ◌+◌, ◌-◌, ◌*◌, ◌≤◌, List, [], ◌∷◌, ◌++◌, length, take, drop, sym, refl, ap, ◌∙◌, ap₂, subst, Ok, Err, Result, ⊎_elim, IfOk, IfErr, arith}
+use Rattle.std.proofs.Common.{◌≡◌, ℕ, ◌+◌, ◌-◌, ◌*◌, ◌≤◌, List, [], ◌∷◌, ◌++◌, length, take, drop, sym, refl, ap, ◌∙◌, ap₂, subst, Ok, Err, Result, ⊎_elim, OnOk, OnErr, arith}
 use Rattle.std.proofs.lemmas.List.{append_assoc, append-nil, length-append, length-take-le, length-drop, take_all, take_at, drop_at, drop-drop, drop_all}
 use Rattle.std.specs.List.{between}
 use lib.Bits.{bit_xor}
@@ -96,16 +96,16 @@ module _ {F : Type 0} {calls : F → ℕ → ℕ → F → Type 0} {mode : ℕ �
 
   -- the buffer is then left as by the mode
   pub left_by_mode : (state : ℕ) (buffer : List ℕ) {f : F} {left : List ℕ} {result : Result (Unit {0}) Refusal} → At f state → result ≡ answered buffer
-      → IfOk result (λ _. LeftByCalls calls f buffer left) → IfErr result (λ _. left ≡ buffer)
+      → OnOk result (LeftByCalls calls f buffer left) → OnErr result (left ≡ buffer)
       → left ≡ left_by (mode state) buffer
   left_by_mode state buffer {f} {left} {result} at e ok err =
       let blocks = as_blocks buffer in
       let walked = as_bytes (mode state blocks) in
       ⊎_elim
       (λ whole.
-      let m = subst (λ r. IfOk r (λ _. LeftByCalls calls f buffer left)) (e ∙ cond-true (is_whole buffer) (Ok tt) (Err NotWholeBlocks) whole) ok in
+      let m = subst (λ r. OnOk r (LeftByCalls calls f buffer left)) (e ∙ cond-true (is_whole buffer) (Ok tt) (Err NotWholeBlocks) whole) ok in
       m.2 ∙ ap as_bytes (made_by_mode blocks m.0 f state at m.1) ∙ sym (cond-true (is_whole buffer) walked buffer whole))
       (λ ragged.
-      subst (λ r. IfErr r (λ _. left ≡ buffer)) (e ∙ cond-false (is_whole buffer) (Ok tt) (Err NotWholeBlocks) ragged) err
+      subst (λ r. OnErr r (left ≡ buffer)) (e ∙ cond-false (is_whole buffer) (Ok tt) (Err NotWholeBlocks) ragged) err
       ∙ sym (cond-false (is_whole buffer) walked buffer ragged))
       (cases_Bool (is_whole buffer))

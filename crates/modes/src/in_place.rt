@@ -1,6 +1,6 @@
 // The walk that the modes share: block after block over a buffer, in place.
 
-ghost use Rattle.std.specs.Prelude.{◌≡◌, IfOk, IfErr};
+ghost use Rattle.std.specs.Prelude.{◌≡◌, OnOk, OnErr};
 ghost use Rattle.modes.specs.InPlace.{answered};
 ghost use Rattle.modes.specs.Steps.{LeftByCalls};
 
@@ -12,8 +12,8 @@ use refusal::Refusal;
 pub(crate) fn in_place<F: FnMut(u64) -> u64>(buffer: &mut [u8], mut step: F) -> Result<(), Refusal>
     requires { F.IsAlwaysCallable step }
     ensures result { result ≡ answered buffer.old }
-    ensures written { IfOk result (λ _. LeftByCalls F.step step buffer.old buffer.new) }
-    ensures refused { IfErr result (λ _. buffer.new ≡ buffer.old) }
+    ensures written { OnOk result (LeftByCalls F.step step buffer.old buffer.new) }
+    ensures refused { OnErr result (buffer.new ≡ buffer.old) }
 {
     if buffer.len() % 8 != 0 {
         return Err(Refusal::NotWholeBlocks);
