@@ -1,10 +1,10 @@
 -- Laws of CMAC: how a tag is made step by step, how it splits at a header, and that one block tells two messages apart.
-use Rattle.std.proofs.Common.{◌≡◌, ℕ, zero, suc, ◌+◌, ◌-◌, ◌*◌, ◌%◌, ◌^◌, ◌<◌, ◌≤◌, eqb, leb, List, [], ◌∷◌, ◌++◌, length, take, drop, replicate, sym, ap, ◌∙◌, subst, ap₂, ⊎_elim, arith, lit<}
+use Rattle.std.proofs.Common.{◌≡◌, ℕ, zero, suc, ◌+◌, ◌-◌, ◌*◌, ◌%◌, ◌^◌, ◌<◌, ◌≤◌, leb, List, [], ◌∷◌, ◌++◌, length, take, drop, replicate, sym, ap, ◌∙◌, subst, ap₂, ⊎_elim, arith, lit<, rules}
 use lib.Bits.{bit_xor, xor_zero_l, xor_lt}
 use Rattle.std.proofs.lemmas.Nat.{mod_below}
 use Rattle.std.proofs.ByRecursion.{All-append, All-drop}
 use Rattle.std.proofs.lemmas.List.{append_cancel_right, length-append, length-drop, length-replicate, take-take, take-append-drop, drop-take, take_at, drop_at, drop-drop}
-use Rattle.std.proofs.lemmas.Bool.{cond_both, cond-true, cond-false, cases_lt, cases_eq, eq-eqb, ne_eqb}
+use Rattle.std.proofs.lemmas.Bool.{cond_both, cases_lt, cases_eq, eq-eqb, ne_eqb}
 use Rattle.std.specs.List.{AllByRecursion}
 use Rattle.cipher.specs.Block.{Byte, Bytes, Block, be_bytes, be_number, first_blocks, DifferInOneBlock}
 use Rattle.cipher.specs.Inverse.{Inverse}
@@ -31,11 +31,11 @@ padded-bytes bytes each few = (
 module _ (CIPH : ℕ → ℕ) where
   whole_last : (bytes : List ℕ) → length bytes ≡ 8 → last_block CIPH bytes ≡ bit_xor (K1 CIPH) (be_number bytes)
   unfolding last_block
-  whole_last bytes whole = cond-true (eqb (length bytes) 8) (bit_xor (K1 CIPH) (be_number bytes)) (bit_xor (K2 CIPH) (be_number (padded bytes))) (eq-eqb (length bytes) 8 whole)
+  whole_last bytes whole = search (rules, eq-eqb)
 
   short_last : (bytes : List ℕ) → (length bytes ≡ 8 → ⊥) → last_block CIPH bytes ≡ bit_xor (K2 CIPH) (be_number (padded bytes))
   unfolding last_block
-  short_last bytes short = cond-false (eqb (length bytes) 8) (bit_xor (K1 CIPH) (be_number bytes)) (bit_xor (K2 CIPH) (be_number (padded bytes))) (ne_eqb (length bytes) 8 short)
+  short_last bytes short = search (rules, ne_eqb)
 
   last_is_block : (bytes : List ℕ) → AllByRecursion Byte bytes → length bytes ≤ 8 → Block (last_block CIPH bytes)
   last_is_block bytes each few =

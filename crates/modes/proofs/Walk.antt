@@ -1,6 +1,7 @@
 -- A walk over a buffer, block after block, that writes what a step makes of each.
 use Rattle.std.proofs.Common.{◌≡◌, ℕ, ◌+◌, ◌-◌, ◌*◌, ◌≤◌, List, [], ◌∷◌, ◌++◌, length, take, drop, sym, refl, ap, ◌∙◌, ap₂, subst, Ok, Err, Result, ⊎_elim, OnOk, OnErr, arith}
-use Rattle.std.proofs.lemmas.List.{append_assoc, append-nil, length-append, length-take-le, length-drop, take_all, take_at, drop_at, drop-drop, drop_all}
+use Rattle.std.proofs.lemmas.List.{append_assoc, append-nil, length-append, length-drop, take_all, drop-drop, drop_all}
+use Rattle.std.proofs.lemmas.List.Edits.{take-paste, drop-paste}
 use Rattle.std.specs.List.{between}
 use lib.Bits.{bit_xor}
 use lib.Seq.{paste}
@@ -34,11 +35,8 @@ module _ {F : Type 0} {calls : F → ℕ → ℕ → F → Type 0} {start : F} {
       → block ≡ be_number (between at (at + 8) is) → calls now block made next → written ≡ paste is at (be_bytes 8 made) 8
       → Walked calls start was (at + 8) next written
   walk_more {at} {now} {next} {is} {written} {block} {made} w same room read call wrote =
-      let front = take at is in
       let bytes = be_bytes 8 made in
-      let after = drop (at + 8) is in
-      let is_now : written ≡ (front ++ bytes) ++ after = wrote ∙ ap (λ z. (front ++ z) ++ after) (take_all 8 bytes (omega (arith, (block_bytes made).0))) in
-      let long : length (front ++ bytes) ≡ at + 8 = length-append front bytes ∙ omega (arith, length-take-le at is (omega arith), (block_bytes made).0) in
+      let fits : 8 ≤ length bytes = omega (arith, (block_bytes made).0) in
       let eight : at + 8 - at ≡ 8 = omega arith in
       let here : be_number (take 8 (drop at was)) ≡ block = ap₂ (λ n z. be_number (take n z)) (sym eight) (sym w.rest) ∙ sym read in
       let blocks : as_blocks (drop at was) ≡ block ∷ as_blocks (drop (at + 8) was) =
@@ -46,10 +44,10 @@ module _ {F : Type 0} {calls : F → ℕ → ℕ → F → Type 0} {start : F} {
       record {
         made = w.made ++ made ∷ [];
         place = omega (arith, w.place, length-append w.made (made ∷ []));
-        rest = ap (drop (at + 8)) is_now ∙ drop_at (front ++ bytes) after (at + 8) long ∙ sym (drop-drop 8 at is) ∙ ap (drop 8) w.rest ∙ drop-drop 8 at was;
+        rest = ap (drop (at + 8)) wrote ∙ drop-paste is at bytes 8 (omega arith) fits ∙ sym (drop-drop 8 at is) ∙ ap (drop 8) w.rest ∙ drop-drop 8 at was;
         front =
-            ap (take (at + 8)) is_now ∙ take_at (front ++ bytes) after (at + 8) long
-            ∙ ap₂ (λ z y. z ++ y) w.front (sym (as_bytes-one made)) ∙ sym (as_bytes-append w.made (made ∷ []));
+            ap (take (at + 8)) wrote ∙ take-paste is at bytes 8 (omega arith) fits
+            ∙ ap₂ (λ x y. x ++ y) w.front (take_all 8 bytes (omega (arith, (block_bytes made).0)) ∙ sym (as_bytes-one made)) ∙ sym (as_bytes-append w.made (made ∷ []));
         on = λ more h.
             let all = w.on (made ∷ more) (subst (λ bs. Makes calls now bs (made ∷ more)) (sym blocks) (next, call, h)) in
             subst (Makes calls start (as_blocks was)) (sym (append_assoc w.made (made ∷ []) more)) all;
