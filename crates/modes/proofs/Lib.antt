@@ -1,3 +1,4 @@
+pub mod Over
 pub mod Walk
 pub mod Undone
 pub mod Tags

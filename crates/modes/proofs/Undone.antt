@@ -1,5 +1,5 @@
 -- Deciphering undoes enciphering, and the other way round: ECB, and CBC from every starting block.
-use Rattle.std.proofs.Common.{◌≡◌, ℕ, suc, ◌%◌, List, [], ◌∷◌, length, refl, ap, ◌∙◌, ap₂, ⊎_elim, arith}
+use Rattle.std.proofs.Common.{◌≡◌, ℕ, suc, ◌%◌, List, [], ◌∷◌, length, sym, refl, ap, ◌∙◌, ap₂, subst, ⊎_elim, arith, lit<}
 use lib.Bits.{bit_xor, xor_lt}
 use Rattle.std.proofs.lemmas.Bool.{cond-true, cond-false, cases_Bool, eq-eqb, eqb-true}
 use Rattle.std.specs.List.{AllByRecursion}
@@ -10,6 +10,7 @@ use Rattle.cipher.proofs.Wholes.{length-as_bytes, as_blocks-blocks, as_blocks-as
 use Rattle.modes.specs.InPlace.{left_by}
 use Rattle.modes.specs.Ecb.{ecb}
 use Rattle.modes.specs.Cbc.{cbc_enciphered, cbc_deciphered}
+use Rattle.modes.proofs.Over.{GoesOver, ecb-goes_over, enciphering_goes_over, deciphering_goes_over}
 
 -- ---- of rows of blocks
 
@@ -19,72 +20,50 @@ pub record Undoes (there back : List ℕ → List ℕ) : Type 0 where
   pub as_many : (bs : List ℕ) → length (there bs) ≡ length bs
   pub back_again : (bs : List ℕ) → AllByRecursion Block bs → back (there bs) ≡ bs
 
+-- Two modes at one state: what the first makes of a block is a block, the second makes the block of it again, and both go on from
+-- one state, which is a block too.
+module _ {there back : ℕ → List ℕ → List ℕ} {makes next makes_back next_back : ℕ → ℕ → ℕ} (over : GoesOver there makes next) (over_back : GoesOver back makes_back next_back)
+    (laws : (state block : ℕ) → Block state → Block block →
+    Block (makes state block) × Block (next state block) × (makes_back state (makes state block) ≡ block) × (next_back state (makes state block) ≡ next state block)) where
+  all_blocks : (bs : List ℕ) (state : ℕ) → Block state → AllByRecursion Block bs → AllByRecursion Block (there state bs)
+  all_blocks [] state hs each = subst (AllByRecursion Block) (sym (over.none state)) tt
+  all_blocks (b ∷ bs) state hs each =
+      let l = laws state b hs each.0 in
+      subst (AllByRecursion Block) (sym (over.more state b bs)) (l.0, all_blocks bs (next state b) l.1 each.1)
+
+  as_many_blocks : (bs : List ℕ) (state : ℕ) → length (there state bs) ≡ length bs
+  as_many_blocks [] state = ap length (over.none state)
+  as_many_blocks (b ∷ bs) state = ap length (over.more state b bs) ∙ ap suc (as_many_blocks bs (next state b))
+
+  blocks_again : (bs : List ℕ) (state : ℕ) → Block state → AllByRecursion Block bs → back state (there state bs) ≡ bs
+  blocks_again [] state hs each = ap (back state) (over.none state) ∙ over_back.none state
+  blocks_again (b ∷ bs) state hs each =
+      let l = laws state b hs each.0 in
+      let on = next state b in
+      ap (back state) (over.more state b bs) ∙ over_back.more state (makes state b) (there on bs)
+      ∙ ap₂ {C = List ℕ} (λ c cs. c ∷ cs) l.2 (ap (λ s. back s (there on bs)) l.3 ∙ blocks_again bs on l.1 each.1)
+
+  undone_from : (state : ℕ) → Block state → Undoes (there state) (back state)
+  undone_from state hs =
+      record { to_blocks = λ bs. all_blocks bs state hs; as_many = λ bs. as_many_blocks bs state; back_again = λ bs. blocks_again bs state hs }
+
 module _ (there back : ℕ → ℕ) (law : Inverse there back) where
-  ecb-blocks : (bs : List ℕ) → AllByRecursion Block bs → AllByRecursion Block (ecb there bs)
-  unfolding ecb
-  ecb-blocks [] each = tt
-  ecb-blocks (b ∷ bs) each = (law.there_to_blocks b each.0, ecb-blocks bs each.1)
-
-  ecb-as_many : (bs : List ℕ) → length (ecb there bs) ≡ length bs
-  unfolding ecb
-  ecb-as_many [] = refl
-  ecb-as_many (b ∷ bs) = ap suc (ecb-as_many bs)
-
-  ecb-back_again : (bs : List ℕ) → AllByRecursion Block bs → ecb back (ecb there bs) ≡ bs
-  unfolding ecb
-  ecb-back_again [] each = refl
-  ecb-back_again (b ∷ bs) each = ap₂ {C = List ℕ} (λ c cs. c ∷ cs) (law.back_undoes b each.0) (ecb-back_again bs each.1)
-
   -- by deciphering, or by enciphering what was deciphered
   pub ecb-undone : Undoes (ecb there) (ecb back)
-  ecb-undone = record { to_blocks = ecb-blocks; as_many = ecb-as_many; back_again = ecb-back_again }
-
-  enciphered_blocks : (bs : List ℕ) (start : ℕ) → Block start → AllByRecursion Block bs → AllByRecursion Block (cbc_enciphered there start bs)
-  unfolding cbc_enciphered
-  enciphered_blocks [] start hs each = tt
-  enciphered_blocks (P ∷ Ps) start hs each =
-      let C = law.there_to_blocks (bit_xor P start) (xor_lt 64 P start each.0 hs) in
-      (C, enciphered_blocks Ps (there (bit_xor P start)) C each.1)
-
-  enciphered_as_many : (bs : List ℕ) (start : ℕ) → length (cbc_enciphered there start bs) ≡ length bs
-  unfolding cbc_enciphered
-  enciphered_as_many [] start = refl
-  enciphered_as_many (P ∷ Ps) start = ap suc (enciphered_as_many Ps (there (bit_xor P start)))
-
-  deciphered_again : (bs : List ℕ) (start : ℕ) → Block start → AllByRecursion Block bs → cbc_deciphered back start (cbc_enciphered there start bs) ≡ bs
-  unfolding cbc_enciphered cbc_deciphered
-  deciphered_again [] start hs each = refl
-  deciphered_again (P ∷ Ps) start hs each =
-      let sum = xor_lt 64 P start each.0 hs in
-      ap₂ {C = List ℕ} (λ c cs. c ∷ cs) (ap (λ z. bit_xor z start) (law.back_undoes (bit_xor P start) sum) ∙ xor_twice P start)
-      (deciphered_again Ps (there (bit_xor P start)) (law.there_to_blocks (bit_xor P start) sum) each.1)
-
-  deciphered_blocks : (bs : List ℕ) (start : ℕ) → Block start → AllByRecursion Block bs → AllByRecursion Block (cbc_deciphered back start bs)
-  unfolding cbc_deciphered
-  deciphered_blocks [] start hs each = tt
-  deciphered_blocks (C ∷ Cs) start hs each =
-      (xor_lt 64 (back C) start (law.back_to_blocks C each.0) hs, deciphered_blocks Cs C each.0 each.1)
-
-  deciphered_as_many : (bs : List ℕ) (start : ℕ) → length (cbc_deciphered back start bs) ≡ length bs
-  unfolding cbc_deciphered
-  deciphered_as_many [] start = refl
-  deciphered_as_many (C ∷ Cs) start = ap suc (deciphered_as_many Cs C)
-
-  enciphered_again : (bs : List ℕ) (start : ℕ) → Block start → AllByRecursion Block bs → cbc_enciphered there start (cbc_deciphered back start bs) ≡ bs
-  unfolding cbc_enciphered cbc_deciphered
-  enciphered_again [] start hs each = refl
-  enciphered_again (C ∷ Cs) start hs each =
-      let same : there (bit_xor (bit_xor (back C) start) start) ≡ C = ap there (xor_twice (back C) start) ∙ law.there_undoes C each.0 in
-      ap₂ {C = List ℕ} (λ c cs. c ∷ cs) same
-      (ap (λ c. cbc_enciphered there c (cbc_deciphered back C Cs)) same ∙ enciphered_again Cs C each.0 each.1)
+  ecb-undone = undone_from (ecb-goes_over there) (ecb-goes_over back) (λ state b hs hb. (law.there_to_blocks b hb, hs, law.back_undoes b hb, refl)) 0 (lit< tt)
 
   pub cbc_undone : (start : ℕ) → Block start → Undoes (cbc_enciphered there start) (cbc_deciphered back start)
-  cbc_undone start hs =
-      record { to_blocks = λ bs. enciphered_blocks bs start hs; as_many = λ bs. enciphered_as_many bs start; back_again = λ bs. deciphered_again bs start hs }
+  cbc_undone =
+      undone_from (enciphering_goes_over there) (deciphering_goes_over back) (λ before P hb hp.
+      let sum = xor_lt 64 P before hp hb in
+      let C = law.there_to_blocks (bit_xor P before) sum in
+      (C, C, ap (λ z. bit_xor z before) (law.back_undoes (bit_xor P before) sum) ∙ xor_twice P before, refl))
 
   pub cbc_redone : (start : ℕ) → Block start → Undoes (cbc_deciphered back start) (cbc_enciphered there start)
-  cbc_redone start hs =
-      record { to_blocks = λ bs. deciphered_blocks bs start hs; as_many = λ bs. deciphered_as_many bs start; back_again = λ bs. enciphered_again bs start hs }
+  cbc_redone =
+      undone_from (deciphering_goes_over back) (enciphering_goes_over there) (λ before C hb hc.
+      let same = ap there (xor_twice (back C) before) ∙ law.there_undoes C hc in
+      (xor_lt 64 (back C) before (law.back_to_blocks C hc) hb, hc, same, same))
 
 -- ---- of buffers
 

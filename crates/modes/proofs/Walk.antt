@@ -3,7 +3,6 @@ use Rattle.std.proofs.Common.{◌≡◌, ℕ, ◌+◌, ◌-◌, ◌*◌, ◌≤�
 use Rattle.std.proofs.lemmas.List.{append_assoc, append-nil, length-append, length-drop, take_all, drop-drop, drop_all}
 use Rattle.std.proofs.lemmas.List.Edits.{take-paste, drop-paste}
 use Rattle.std.specs.List.{between}
-use lib.Bits.{bit_xor}
 use lib.Seq.{paste}
 use Rattle.std.proofs.lemmas.Bool.{cond-true, cond-false, cases_Bool}
 use Rattle.refusal.specs.declared.cause.Refusal.{Refusal}
@@ -13,8 +12,7 @@ use Rattle.cipher.proofs.Numbers.{block_bytes}
 use Rattle.cipher.proofs.Wholes.{as_blocks-first, as_blocks-none, as_bytes-append, as_bytes-one}
 use Rattle.modes.specs.InPlace.{answered, left_by}
 use Rattle.modes.specs.Steps.{Makes, LeftByCalls}
-use Rattle.modes.specs.Ecb.{ecb}
-use Rattle.modes.specs.Cbc.{cbc_enciphered, cbc_deciphered}
+use Rattle.modes.proofs.Over.{GoesOver}
 
 -- What the walk keeps, of the bytes as they were and as they are: from `at` on they are the same, before it stand the blocks
 -- that were made, and behind these comes what the step, as it is now, makes of the others.
@@ -62,26 +60,7 @@ module _ {F : Type 0} {calls : F → ℕ → ℕ → F → Type 0} {start : F} {
 
 -- ---- what a step makes, where it does as a mode
 
--- A mode that goes over blocks from a state, which for CBC is the enciphered block before: `makes` says what it makes of a block
--- at a state, and `next` what state it goes on from.
-pub record GoesOver (mode : ℕ → List ℕ → List ℕ) (makes next : ℕ → ℕ → ℕ) : Type 0 where
-  pub none : (state : ℕ) → mode state [] ≡ []
-  pub more : (state block : ℕ) (blocks : List ℕ) → mode state (block ∷ blocks) ≡ makes state block ∷ mode (next state block) blocks
-
-module _ (CIPH : ℕ → ℕ) where
-  pub ecb-goes_over : GoesOver (λ state. ecb CIPH) (λ state block. CIPH block) (λ state block. state)
-  unfolding ecb
-  ecb-goes_over = record { none = λ state. refl; more = λ state block blocks. refl }
-
-  pub enciphering_goes_over : GoesOver (cbc_enciphered CIPH) (λ before block. CIPH (bit_xor block before)) (λ before block. CIPH (bit_xor block before))
-  unfolding cbc_enciphered
-  enciphering_goes_over = record { none = λ before. refl; more = λ before block blocks. refl }
-
-  pub deciphering_goes_over : GoesOver (cbc_deciphered CIPH) (λ before block. bit_xor (CIPH block) before) (λ before block. block)
-  unfolding cbc_deciphered
-  deciphering_goes_over = record { none = λ before. refl; more = λ before block blocks. refl }
-
--- `At` ties the step, as it is, to the state: a call makes what the mode makes, and leaves the step at the next state.
+-- `At` ties the step, as it is, to the state of a mode: a call makes what the mode makes, and leaves the step at the next state.
 module _ {F : Type 0} {calls : F → ℕ → ℕ → F → Type 0} {mode : ℕ → List ℕ → List ℕ} {makes next : ℕ → ℕ → ℕ} (over : GoesOver mode makes next)
     (At : F → ℕ → Type 0) (steps : (f : F) (state block made : ℕ) (g : F) → At f state → calls f block made g → (made ≡ makes state block) × At g (next state block)) where
   made_by_mode : (blocks made : List ℕ) (f : F) (state : ℕ) → At f state → Makes calls f blocks made → made ≡ mode state blocks

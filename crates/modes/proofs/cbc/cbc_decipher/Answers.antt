@@ -2,7 +2,8 @@ use Rattle.std.proofs.Common.{◌≡◌, refl, rules, arith}
 use Rattle.cipher.proofs.Rows.{of_slice}
 use Rattle.modes.specs.contracts.cbc.fn.cbc_decipher.in_place as closure
 use Rattle.modes.proofs.Undone.{left_undone, cbc_redone}
-use Rattle.modes.proofs.Walk.{left_by_mode, deciphering_goes_over}
+use Rattle.modes.proofs.Over.{deciphering_goes_over}
+use Rattle.modes.proofs.Walk.{left_by_mode}
 use Rattle.modes.proofs.cbc.cbc_decipher.Goals as goal
 
 pub returns-clause-written : goal.returns-clause-written

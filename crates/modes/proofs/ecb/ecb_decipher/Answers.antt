@@ -3,7 +3,8 @@ use Rattle.cipher.proofs.Inverses.{turned}
 use Rattle.cipher.proofs.Rows.{of_slice}
 use Rattle.modes.specs.contracts.ecb.fn.ecb_decipher.in_place as closure
 use Rattle.modes.proofs.Undone.{left_undone, ecb-undone}
-use Rattle.modes.proofs.Walk.{left_by_mode, ecb-goes_over}
+use Rattle.modes.proofs.Over.{ecb-goes_over}
+use Rattle.modes.proofs.Walk.{left_by_mode}
 use Rattle.modes.proofs.ecb.ecb_decipher.Goals as goal
 
 pub returns-clause-written : goal.returns-clause-written

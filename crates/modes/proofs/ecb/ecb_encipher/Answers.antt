@@ -2,7 +2,8 @@ use Rattle.std.proofs.Common.{◌≡◌, refl, rules}
 use Rattle.cipher.proofs.Rows.{of_slice}
 use Rattle.modes.specs.contracts.ecb.fn.ecb_encipher.in_place as closure
 use Rattle.modes.proofs.Undone.{left_undone, ecb-undone}
-use Rattle.modes.proofs.Walk.{left_by_mode, ecb-goes_over}
+use Rattle.modes.proofs.Over.{ecb-goes_over}
+use Rattle.modes.proofs.Walk.{left_by_mode}
 use Rattle.modes.proofs.ecb.ecb_encipher.Goals as goal
 
 pub returns-clause-written : goal.returns-clause-written
