@@ -1,5 +1,5 @@
 -- Rows of bytes, and ⊕ on them.
-use Rattle.std.proofs.Common.{◌≡◌, ℕ, zero, suc, ◌+◌, ◌*◌, ◌^◌, ◌<◌, List, [], ◌∷◌, ◌++◌, length, get_or, take, drop, replicate, sym, refl, ap, ◌∙◌, ap₂, add-zero, arith, lit<, pow_pos, w8, Fits, rules}
+use Rattle.std.proofs.Common.{◌≡◌, ℕ, ◌+◌, ◌*◌, ◌^◌, ◌<◌, List, [], ◌∷◌, ◌++◌, length, get_or, take, drop, replicate, sym, refl, ap, ◌∙◌, ap₂, add-zero, arith, lit<, pow_pos, w8, Fits, rules}
 use lib.Bits.{bit_xor, xor_assoc, xor_block, xor_comm, xor_self, xor_zero_l, xor_zero_r, xor_lt}
 use mir.Val.{Val}
 use mir.Facts.{Fits-lt-pow}

@@ -1,6 +1,6 @@
 -- The layers γ and θ as sums of eight blocks, one for each byte.
 use Rattle.std.proofs.Common.{◌≡◌, ℕ, ◌-◌, ◌*◌, ◌%◌, ◌^◌, ◌<◌, ◌≤◌, ◌+◌, drop, List, [], ◌∷◌, length, get_or, replicate, sym, refl, ap, ◌∙◌}
-use lib.Bits.{bit_and, bit_xor, xor_assoc, xor_zero_r, xor_zero_l}
+use lib.Bits.{bit_and, bit_xor, xor_assoc, xor_zero_r}
 use Rattle.std.proofs.lemmas.List.{drop_more, drop_all}
 use Rattle.std.specs.List.{All}
 use Rattle.std.proofs.lemmas.List.Elements.{All-head, All-tail}

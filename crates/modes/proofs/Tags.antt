@@ -2,10 +2,10 @@
 use Rattle.std.proofs.Common.{◌≡◌, ℕ, zero, suc, ◌+◌, ◌-◌, ◌*◌, ◌%◌, ◌^◌, ◌<◌, ◌≤◌, leb, List, [], ◌∷◌, ◌++◌, length, take, drop, replicate, sym, ap, ◌∙◌, subst, ap₂, ⊎_elim, arith, lit<, rules}
 use lib.Bits.{bit_xor, xor_zero_l, xor_lt}
 use Rattle.std.proofs.lemmas.Nat.{mod_below}
-use Rattle.std.proofs.ByRecursion.{All-append, All-drop}
+use Rattle.std.proofs.lemmas.List.Elements.{All-cons, All-head, All-tail, All-append, All-drop}
 use Rattle.std.proofs.lemmas.List.{append_cancel_right, length-append, length-drop, length-replicate, take-take, take-append-drop, drop-take, take_at, drop_at, drop-drop}
 use Rattle.std.proofs.lemmas.Bool.{cond_both, cases_lt, cases_eq, eq-eqb, ne_eqb}
-use Rattle.std.specs.List.{AllByRecursion}
+use Rattle.std.specs.List.{All}
 use Rattle.cipher.specs.Block.{Byte, Bytes, Block, be_bytes, be_number, first_blocks, DifferInOneBlock}
 use Rattle.cipher.specs.Inverse.{Inverse}
 use Rattle.cipher.proofs.Inverses.{apart}
@@ -22,10 +22,10 @@ doubled-block b =
     let shifted : b * 2 % 2 ^ 64 < 2 ^ 64 = mod_below (b * 2) (2 ^ 64) (lit< tt) in
     cond_both (leb (2 ^ 63) b) (bit_xor (b * 2 % 2 ^ 64) 0x1B) (b * 2 % 2 ^ 64) (λ x. x < 2 ^ 64) (λ _. xor_lt 64 (b * 2 % 2 ^ 64) 0x1B shifted (lit< tt)) (λ _. shifted)
 
-padded-bytes : (bytes : List ℕ) → AllByRecursion Byte bytes → length bytes < 8 → Bytes 8 (padded bytes)
+padded-bytes : (bytes : List ℕ) → All Byte bytes → length bytes < 8 → Bytes 8 (padded bytes)
 padded-bytes bytes each few = (
   length-append bytes (0x80 ∷ replicate (7 - length bytes) 0) ∙ omega (arith, length-replicate {A = ℕ} (7 - length bytes) 0),
-  All-append Byte bytes (0x80 ∷ replicate (7 - length bytes) 0) each (lit< tt, zeros (7 - length bytes)),
+  All-append Byte bytes (0x80 ∷ replicate (7 - length bytes) 0) each (All-cons Byte 0x80 (replicate (7 - length bytes) 0) (lit< tt) (zeros (7 - length bytes))),
 )
 
 module _ (CIPH : ℕ → ℕ) where
@@ -37,7 +37,7 @@ module _ (CIPH : ℕ → ℕ) where
   unfolding last_block
   short_last bytes short = search (rules, ne_eqb)
 
-  last_is_block : (bytes : List ℕ) → AllByRecursion Byte bytes → length bytes ≤ 8 → Block (last_block CIPH bytes)
+  last_is_block : (bytes : List ℕ) → All Byte bytes → length bytes ≤ 8 → Block (last_block CIPH bytes)
   last_is_block bytes each few =
       ⊎_elim
       (λ whole. subst Block (sym (whole_last bytes whole)) (xor_lt 64 (K1 CIPH) (be_number bytes) (doubled-block (CIPH 0)) (number_block bytes (whole, each))))
@@ -45,7 +45,7 @@ module _ (CIPH : ℕ → ℕ) where
       (cases_eq (length bytes) 8)
 
   -- as many last bytes are told by their last block
-  last_tells : (xs ys : List ℕ) → AllByRecursion Byte xs → AllByRecursion Byte ys → length xs ≡ length ys → length xs ≤ 8 → last_block CIPH xs ≡ last_block CIPH ys → xs ≡ ys
+  last_tells : (xs ys : List ℕ) → All Byte xs → All Byte ys → length xs ≡ length ys → length xs ≤ 8 → last_block CIPH xs ≡ last_block CIPH ys → xs ≡ ys
   last_tells xs ys hx hy long few e =
       ⊎_elim
       (λ whole.
@@ -90,28 +90,28 @@ module _ (CIPH : ℕ → ℕ) where
 
 module _ (CIPH back : ℕ → ℕ) (law : Inverse CIPH back) where
   -- a message keeps two chains apart
-  chained-apart : (bs : List ℕ) (C D : ℕ) → AllByRecursion Block bs → Block C → Block D → chained CIPH C bs ≡ chained CIPH D bs → C ≡ D
+  chained-apart : (bs : List ℕ) (C D : ℕ) → All Block bs → Block C → Block D → chained CIPH C bs ≡ chained CIPH D bs → C ≡ D
   unfolding chained
   chained-apart [] C D each hc hd e = e
   chained-apart (M ∷ Ms) C D each hc hd e =
-      let c = xor_lt 64 C M hc each.0 in
-      let d = xor_lt 64 D M hd each.0 in
-      xor_cancel_right C D M (apart law (bit_xor C M) (bit_xor D M) c d (chained-apart Ms (CIPH (bit_xor C M)) (CIPH (bit_xor D M)) each.1 (law.there_to_blocks (bit_xor C M) c) (law.there_to_blocks (bit_xor D M) d) e))
+      let c = xor_lt 64 C M hc (All-head Block M Ms each) in
+      let d = xor_lt 64 D M hd (All-head Block M Ms each) in
+      xor_cancel_right C D M (apart law (bit_xor C M) (bit_xor D M) c d (chained-apart Ms (CIPH (bit_xor C M)) (CIPH (bit_xor D M)) (All-tail Block M Ms each) (law.there_to_blocks (bit_xor C M) c) (law.there_to_blocks (bit_xor D M) d) e))
 
-  chained-block : (bs : List ℕ) (C : ℕ) → AllByRecursion Block bs → Block C → Block (chained CIPH C bs)
+  chained-block : (bs : List ℕ) (C : ℕ) → All Block bs → Block C → Block (chained CIPH C bs)
   unfolding chained
   chained-block [] C each hc = hc
-  chained-block (M ∷ Ms) C each hc = chained-block Ms (CIPH (bit_xor C M)) each.1 (law.there_to_blocks (bit_xor C M) (xor_lt 64 C M hc each.0))
+  chained-block (M ∷ Ms) C each hc = chained-block Ms (CIPH (bit_xor C M)) (All-tail Block M Ms each) (law.there_to_blocks (bit_xor C M) (xor_lt 64 C M hc (All-head Block M Ms each)))
 
   -- what a tag is enciphered from is a block
-  module _ (message : List ℕ) (each : AllByRecursion Byte message) where
-    blocks_before : AllByRecursion Block (first_blocks (before_last message) message)
+  module _ (message : List ℕ) (each : All Byte message) where
+    blocks_before : All Block (first_blocks (before_last message) message)
     blocks_before = first_blocks-blocks (before_last message) message each (omega arith)
 
     last_of : Block (last_block CIPH (drop (8 * before_last message) message))
     last_of = last_is_block CIPH (drop (8 * before_last message) message) (All-drop Byte (8 * before_last message) message each) (omega (arith, length-drop (8 * before_last message) message))
 
-  tag_from-apart : (message : List ℕ) (C D : ℕ) → AllByRecursion Byte message → Block C → Block D → tag_from CIPH C message ≡ tag_from CIPH D message → C ≡ D
+  tag_from-apart : (message : List ℕ) (C D : ℕ) → All Byte message → Block C → Block D → tag_from CIPH C message ≡ tag_from CIPH D message → C ≡ D
   unfolding tag_from
   tag_from-apart message C D each hc hd e =
       let bs = first_blocks (before_last message) message in
@@ -123,18 +123,18 @@ module _ (CIPH back : ℕ → ℕ) (law : Inverse CIPH back) where
       chained-apart bs C D blocks hc hd
       (xor_cancel_right (chained CIPH C bs) (chained CIPH D bs) last (apart law (bit_xor (chained CIPH C bs) last) (bit_xor (chained CIPH D bs) last) (xor_lt 64 (chained CIPH C bs) last c lastly) (xor_lt 64 (chained CIPH D bs) last d lastly) e))
 
-  pub tag_block : (message : List ℕ) (C : ℕ) → AllByRecursion Byte message → Block C → Block (tag_from CIPH C message)
+  pub tag_block : (message : List ℕ) (C : ℕ) → All Byte message → Block C → Block (tag_from CIPH C message)
   unfolding tag_from
   tag_block message C each hc =
       let bs = first_blocks (before_last message) message in
       let last = last_block CIPH (drop (8 * before_last message) message) in
       law.there_to_blocks (bit_xor (chained CIPH C bs) last) (xor_lt 64 (chained CIPH C bs) last (chained-block bs C (blocks_before message each) hc) (last_of message each))
 
-  pub CMAC-block : (message : List ℕ) → AllByRecursion Byte message → Block (CMAC CIPH message)
+  pub CMAC-block : (message : List ℕ) → All Byte message → Block (CMAC CIPH message)
   unfolding CMAC
   CMAC-block message each = tag_block message 0 each (lit< tt)
 
-  module _ (xs ys : List ℕ) (hx : AllByRecursion Byte xs) (hy : AllByRecursion Byte ys) (long : length xs ≡ length ys) where
+  module _ (xs ys : List ℕ) (hx : All Byte xs) (hy : All Byte ys) (long : length xs ≡ length ys) where
     short_tells : (C : ℕ) → Block C → length xs ≤ 8 → tag_from CIPH C xs ≡ tag_from CIPH C ys → xs ≡ ys
     short_tells C hc few e =
         let lx = last_is_block CIPH xs hx few in
@@ -176,7 +176,7 @@ module _ (CIPH back : ℕ → ℕ) (law : Inverse CIPH back) where
       into_chain = law.there_to_blocks (bit_xor C x) (xor_lt 64 C x hc (number_block (take 8 xs) (first_eight xs hx (omega arith))))
 
   -- where all that differs lies inside one block, and the tags are the same, nothing differs
-  tells : (place : ℕ) (xs ys : List ℕ) (C : ℕ) → AllByRecursion Byte xs → AllByRecursion Byte ys → length xs ≡ length ys → Block C
+  tells : (place : ℕ) (xs ys : List ℕ) (C : ℕ) → All Byte xs → All Byte ys → length xs ≡ length ys → Block C
       → take (8 * place) xs ≡ take (8 * place) ys → drop (8 * place + 8) xs ≡ drop (8 * place + 8) ys → tag_from CIPH C xs ≡ tag_from CIPH C ys → xs ≡ ys
   tells zero xs ys C hx hy long hc before after e =
       ⊎_elim
@@ -198,6 +198,6 @@ module _ (CIPH back : ℕ → ℕ) (law : Inverse CIPH back) where
       (λ few. short_tells xs ys hx hy long C hc few e) (cases_lt 8 (length xs))
 
   -- messages that differ inside just one block have different tags
-  pub one_block_tells : (xs ys : List ℕ) → AllByRecursion Byte xs → AllByRecursion Byte ys → DifferInOneBlock xs ys → CMAC CIPH xs ≡ CMAC CIPH ys → ⊥
+  pub one_block_tells : (xs ys : List ℕ) → All Byte xs → All Byte ys → DifferInOneBlock xs ys → CMAC CIPH xs ≡ CMAC CIPH ys → ⊥
   unfolding CMAC
   one_block_tells xs ys hx hy d e = d.differ (tells d.place xs ys 0 hx hy d.as_long (lit< tt) d.same_before d.same_after e)

@@ -2,7 +2,8 @@
 use Rattle.std.proofs.Common.{◌≡◌, ℕ, suc, ◌%◌, List, [], ◌∷◌, length, sym, refl, ap, ◌∙◌, ap₂, subst, ⊎_elim, arith, lit<}
 use lib.Bits.{bit_xor, xor_lt}
 use Rattle.std.proofs.lemmas.Bool.{cond-true, cond-false, cases_Bool, eq-eqb, eqb-true}
-use Rattle.std.specs.List.{AllByRecursion}
+use Rattle.std.specs.List.{All}
+use Rattle.std.proofs.lemmas.List.Elements.{All-nil, All-cons, All-head, All-tail}
 use Rattle.cipher.specs.Block.{Byte, Block, as_blocks, as_bytes, is_whole}
 use Rattle.cipher.specs.Inverse.{Inverse}
 use Rattle.cipher.proofs.Rows.{xor_twice}
@@ -16,32 +17,32 @@ use Rattle.modes.proofs.Over.{GoesOver, ecb-goes_over, enciphering_goes_over, de
 
 -- a mode takes blocks to as many blocks, and another mode takes these back
 pub record Undoes (there back : List ℕ → List ℕ) : Type 0 where
-  pub to_blocks : (bs : List ℕ) → AllByRecursion Block bs → AllByRecursion Block (there bs)
+  pub to_blocks : (bs : List ℕ) → All Block bs → All Block (there bs)
   pub as_many : (bs : List ℕ) → length (there bs) ≡ length bs
-  pub back_again : (bs : List ℕ) → AllByRecursion Block bs → back (there bs) ≡ bs
+  pub back_again : (bs : List ℕ) → All Block bs → back (there bs) ≡ bs
 
 -- Two modes at one state: what the first makes of a block is a block, the second makes the block of it again, and both go on from
 -- one state, which is a block too.
 module _ {there back : ℕ → List ℕ → List ℕ} {makes next makes_back next_back : ℕ → ℕ → ℕ} (over : GoesOver there makes next) (over_back : GoesOver back makes_back next_back)
     (laws : (state block : ℕ) → Block state → Block block →
     Block (makes state block) × Block (next state block) × (makes_back state (makes state block) ≡ block) × (next_back state (makes state block) ≡ next state block)) where
-  all_blocks : (bs : List ℕ) (state : ℕ) → Block state → AllByRecursion Block bs → AllByRecursion Block (there state bs)
-  all_blocks [] state hs each = subst (AllByRecursion Block) (sym (over.none state)) tt
+  all_blocks : (bs : List ℕ) (state : ℕ) → Block state → All Block bs → All Block (there state bs)
+  all_blocks [] state hs each = subst (All Block) (sym (over.none state)) (All-nil Block)
   all_blocks (b ∷ bs) state hs each =
-      let l = laws state b hs each.0 in
-      subst (AllByRecursion Block) (sym (over.more state b bs)) (l.0, all_blocks bs (next state b) l.1 each.1)
+      let l = laws state b hs (All-head Block b bs each) in
+      subst (All Block) (sym (over.more state b bs)) (All-cons Block (makes state b) (there (next state b) bs) l.0 (all_blocks bs (next state b) l.1 (All-tail Block b bs each)))
 
   as_many_blocks : (bs : List ℕ) (state : ℕ) → length (there state bs) ≡ length bs
   as_many_blocks [] state = ap length (over.none state)
   as_many_blocks (b ∷ bs) state = ap length (over.more state b bs) ∙ ap suc (as_many_blocks bs (next state b))
 
-  blocks_again : (bs : List ℕ) (state : ℕ) → Block state → AllByRecursion Block bs → back state (there state bs) ≡ bs
+  blocks_again : (bs : List ℕ) (state : ℕ) → Block state → All Block bs → back state (there state bs) ≡ bs
   blocks_again [] state hs each = ap (back state) (over.none state) ∙ over_back.none state
   blocks_again (b ∷ bs) state hs each =
-      let l = laws state b hs each.0 in
+      let l = laws state b hs (All-head Block b bs each) in
       let on = next state b in
       ap (back state) (over.more state b bs) ∙ over_back.more state (makes state b) (there on bs)
-      ∙ ap₂ {C = List ℕ} (λ c cs. c ∷ cs) l.2 (ap (λ s. back s (there on bs)) l.3 ∙ blocks_again bs on l.1 each.1)
+      ∙ ap₂ {C = List ℕ} (λ c cs. c ∷ cs) l.2 (ap (λ s. back s (there on bs)) l.3 ∙ blocks_again bs on l.1 (All-tail Block b bs each))
 
   undone_from : (state : ℕ) → Block state → Undoes (there state) (back state)
   undone_from state hs =
@@ -67,7 +68,7 @@ module _ (there back : ℕ → ℕ) (law : Inverse there back) where
 
 -- ---- of buffers
 
-module _ {there back : List ℕ → List ℕ} (undoes : Undoes there back) {buffer left : List ℕ} (each : AllByRecursion Byte buffer) (written : left ≡ left_by there buffer) where
+module _ {there back : List ℕ → List ℕ} (undoes : Undoes there back) {buffer left : List ℕ} (each : All Byte buffer) (written : left ≡ left_by there buffer) where
   -- whole blocks come back, and what was refused was left as it was
   pub left_undone : left_by back left ≡ buffer
   left_undone =

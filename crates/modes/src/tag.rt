@@ -1,7 +1,7 @@
 // CMAC: the check tag of a message, under one key.
 
 ghost use Rattle.std.specs.Prelude.{◌≡◌, ℕ, ◌<◌, ◌≤◌, List, ◌++◌, length, ◌≢◌};
-ghost use Rattle.std.specs.List.{AllByRecursion};
+ghost use Rattle.std.specs.List.{All};
 ghost use Rattle.cipher.specs.Block.{Byte, Block, be_bytes, be_number, DifferInOneBlock};
 ghost use Rattle.modes.specs.Cmac.{doubled, padded, last_block, tag_from, CMAC};
 
@@ -13,7 +13,7 @@ use cipher::{Cipher, block_of};
 // - from_header: the tag of a header block and a body is that of the body, chained from the enciphered header.
 pub fn cmac<C: Cipher>(cipher: &C, message: &[u8]) -> u64
     ensures value { result ≡ CMAC (C.enciphered (C.key cipher.now)) message.now }
-    ensures one_block_tells { (other : List ℕ) → AllByRecursion Byte other → DifferInOneBlock message.now other → result ≢ CMAC (C.enciphered (C.key cipher.now)) other }
+    ensures one_block_tells { (other : List ℕ) → All Byte other → DifferInOneBlock message.now other → result ≢ CMAC (C.enciphered (C.key cipher.now)) other }
     ensures from_header { (header : ℕ) (body : List ℕ) → Block header → 0 < length body → message.now ≡ be_bytes 8 header ++ body → result ≡ tag_from (C.enciphered (C.key cipher.now)) (C.enciphered (C.key cipher.now) header) body }
 {
     let mut chain = 0;

@@ -1,4 +1,4 @@
-use Rattle.std.proofs.Common.{rules, arith, ◌≡◌, ◌*◌, ◌++◌, ◌∷◌, List, ℕ, get_or, length, sym, ap, ap₂, ◌∙◌, ⊎_elim}
+use Rattle.std.proofs.Common.{rules, arith, ◌≡◌, ◌*◌, ◌++◌, ◌∷◌, List, ℕ, length, sym, ap, ap₂, ◌∙◌, ⊎_elim}
 use lib.Bits.{bit_xor}
 use Rattle.std.proofs.lemmas.List.{length-append}
 use Rattle.std.specs.List.{flat_map}

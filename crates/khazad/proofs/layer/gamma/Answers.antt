@@ -1,4 +1,4 @@
-use Rattle.std.proofs.Common.{rules, refl}
+use Rattle.std.proofs.Common.{rules}
 use Rattle.cipher.proofs.Rows.{of_array}
 use Rattle.khazad.specs.Khazad.{S, γ}
 use Rattle.khazad.proofs.Made.{mapped_by_calls}

@@ -1,6 +1,5 @@
 use Rattle.std.proofs.Common.{◌≤◌, length, sym, ap, ◌∙◌, arith}
 use lib.Bits.{xor_zero_l}
-use Rattle.cipher.proofs.Rows.{of_array}
 use Rattle.khazad_lookup.specs.Table.{added}
 use Rattle.khazad_lookup.proofs.Sums.{one_byte_more, no_byte_more}
 use Rattle.khazad_lookup.proofs.layer.added_up.Goals as goal
