@@ -8,8 +8,8 @@ use denote.Plain.{UInt}
 use denote.Array.{Array}
 use Rattle.std.proofs.lemmas.List.FromFn.{fill_by_all}
 use Rattle.std.proofs.lemmas.List.Elements.{All-nil, All-cons, All-head, All-tail, All-replicate, All-from_get_or, All-get_or, All-take, All-drop}
-use Rattle.std.proofs.lemmas.List.{ext_get_or, length-take-le, length-drop}
-use Rattle.std.proofs.lemmas.Simd.{length-zip2, get_or-zip2}
+use Rattle.std.proofs.lemmas.List.{length-take-le, length-drop}
+use Rattle.std.proofs.lemmas.Simd.{length-zip2}
 use Rattle.std.specs.List.{All}
 use Rattle.cipher.specs.Block.{Byte, Bytes, ◌⊕◌}
 
@@ -25,10 +25,6 @@ of_slice xs fits = All-from_get_or Byte xs 0 (λ i h. Fits-lt-pow (fits i))
 pub eight_places : (xs : List ℕ) → length xs ≡ 8 →
     xs ≡ get_or xs 0 0 ∷ get_or xs 1 0 ∷ get_or xs 2 0 ∷ get_or xs 3 0 ∷ get_or xs 4 0 ∷ get_or xs 5 0 ∷ get_or xs 6 0 ∷ get_or xs 7 0 ∷ []
 eight_places xs h = fill_by_all (λ i. get_or xs i 0) xs 8 0 h (λ k l. refl)
-
--- two rows of n that agree at each place
-pub same_places : (n : ℕ) (xs ys : List ℕ) → length xs ≡ n → length ys ≡ n → ((k : ℕ) → k < n → get_or xs k 0 ≡ get_or ys k 0) → xs ≡ ys
-same_places n xs ys hx hy same = ext_get_or 0 xs ys (hx ∙ sym hy) (λ k l. same k (omega arith))
 
 -- a byte at each place
 pub byte_at : (n : ℕ) (xs : List ℕ) → Bytes n xs → (i : ℕ) → i < n → get_or xs i 0 < 256
@@ -84,9 +80,6 @@ each_byte (x ∷ a) (y ∷ b) ha hb =
 
 pub ⊕-bytes : (n : ℕ) (a b : List ℕ) → Bytes n a → Bytes n b → Bytes n (a ⊕ b)
 ⊕-bytes n a b ha hb = (length-zip2 bit_xor a b (ha.0 ∙ sym hb.0) ∙ ha.0, each_byte a b ha.1 hb.1)
-
-pub ⊕-at : (n : ℕ) (a b : List ℕ) → length a ≡ n → length b ≡ n → (k : ℕ) → k < n → get_or (a ⊕ b) k 0 ≡ bit_xor (get_or a k 0) (get_or b k 0)
-⊕-at n a b ha hb k l = get_or-zip2 bit_xor a b k 0 0 0 (omega arith) (omega arith)
 
 pub ⊕-twice : (a k : List ℕ) → length a ≡ length k → (a ⊕ k) ⊕ k ≡ a
 ⊕-twice [] k h = refl
