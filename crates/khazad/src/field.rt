@@ -4,6 +4,7 @@ ghost use Rattle.std.specs.Prelude.{◌≡◌};
 ghost use Rattle.khazad.specs.Khazad.{dbl, mul};
 
 // Twice an element. The bit that the shift pushes out stands for x^8, which is 0x1D.
+// Apart from the doubling of blocks in `modes`: one function for both would need a trait of shifts over `u8` and `u64`.
 fn double(x: u8) -> u8
     ensures { result ≡ dbl x }
 {
@@ -11,6 +12,7 @@ fn double(x: u8) -> u8
 }
 
 // The product of two elements, by the bits of the first.
+// The loop counts eight turns and indexes nothing; a fold would carry its three values in a tuple.
 pub fn product(a: u8, x: u8) -> u8
     ensures { result ≡ mul a x }
 {

@@ -48,6 +48,7 @@ const TOP_BIT: u64 = 0x8000_0000_0000_0000;
 const REDUCTION: u64 = 0x1B;
 
 // Twice a block: shifted left by one, and 0x1B added where the top bit was set.
+// Apart from the doubling of bytes in `khazad`: one function for both would need a trait of shifts over `u8` and `u64`.
 #[tactic(auto, unfolding(crate::specs::Cmac::doubled))]
 fn double(block: u64) -> u64
     ensures { result ≡ doubled block }

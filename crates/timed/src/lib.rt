@@ -1,7 +1,8 @@
 // What the benchmark times: the modes under the fast engine, for a program in Rust or C to link.
 //
 // A key crosses as its two halves, each as a block. The call prepares it, works on the text in place and says whether it
-// did; a text that is not whole blocks is left as it was.
+// did; a text that is not whole blocks is left as it was. One function for each mode, two blocks for a key and a `bool` for
+// an answer: that is what the C interface can carry.
 #![tactic(auto)]
 
 ghost use Rattle.std.specs.Prelude.{◌≡◌, ◌++◌};
@@ -15,7 +16,7 @@ use cipher::{Cipher, put_block};
 use khazad_lookup::LookupKhazad;
 use modes::{cbc_encipher, ecb_encipher};
 
-// The key of two halves.
+// The key of two halves. By two writes: one `u128` of both halves would be written in a line, and proved in twenty.
 fn key_of(first: u64, second: u64) -> [u8; 16]
     ensures { result ≡ be_bytes 8 first ++ be_bytes 8 second }
 {
