@@ -1,5 +1,5 @@
 -- Numbers and the bytes that write them, first byte most significant, at every width.
-use Rattle.std.proofs.Common.{◌≡◌, ℕ, zero, suc, ◌+◌, ◌*◌, ◌/◌, ◌%◌, ◌^◌, ◌<◌, List, [], ◌∷◌, ◌++◌, length, get_or, take, sym, refl, ap, ◌∙◌, subst, ap₂, mul_assoc, add-mul, pow-suc, mul-one, add-one, arith}
+use Rattle.std.proofs.Common.{◌≡◌, ℕ, zero, suc, ◌+◌, ◌*◌, ◌/◌, ◌%◌, ◌^◌, ◌<◌, List, [], ◌∷◌, ◌++◌, length, get_or, take, sym, refl, ap, ◌∙◌, append_assoc, append-nil, subst, ap₂, mul_assoc, add-mul, pow-suc, mul-one, add-one, arith}
 use native.Mathlib.Nat.{pow-zero, pow-succ', div-div-eq-div-mul}
 use lib.Bits.{bit_xor, xor_lt, xor_shr, xor_mod}
 use Rattle.std.proofs.lemmas.Nat.{mod_below, pow-add}
@@ -47,6 +47,26 @@ bytes_of_number (suc w) xs h =
     let high : number_from_digits 256 xs / 256 ≡ number_from_digits 256 front = omega arith in
     let low : number_from_digits 256 xs % 256 ≡ last = omega arith in
     ap₂ (λ q r. be_bytes w q ++ r ∷ []) high low ∙ ap (λ zs. zs ++ last ∷ []) (bytes_of_number w front front_bytes) ∙ sym split
+
+-- the bytes of a number whose last w bytes write b, and the others a
+pub be_bytes-two_parts : (v w a b : ℕ) → b < 256 ^ w → be_bytes (w + v) (a * 256 ^ w + b) ≡ be_bytes v a ++ be_bytes w b
+unfolding be_bytes
+be_bytes-two_parts v zero a b l =
+    let none : b ≡ 0 = omega (arith, pow-zero 256) in
+    let whole : a * 256 ^ 0 + b ≡ a = omega (arith, pow-zero 256) in
+    let wide : 0 + v ≡ v = omega arith in
+    ap₂ be_bytes wide whole ∙ sym (append-nil (be_bytes v a))
+be_bytes-two_parts v (suc w) a b l =
+    let p = 256 ^ w in
+    let more : a * 256 ^ suc w ≡ a * p * 256 = ap (λ q. a * q) (pow-suc 256 w) ∙ sym (mul_assoc a p 256) in
+    let high : (a * 256 ^ suc w + b) / 256 ≡ a * p + b / 256 = omega arith in
+    let low : (a * 256 ^ suc w + b) % 256 ≡ b % 256 = omega arith in
+    let within : b / 256 < p = omega (arith, pow-suc 256 w) in
+    let wide : suc w + v ≡ suc (w + v) = omega arith in
+    ap (λ k. be_bytes k (a * 256 ^ suc w + b)) wide
+    ∙ ap₂ (λ q r. be_bytes (w + v) q ++ r ∷ []) high low
+    ∙ ap (λ bs. bs ++ b % 256 ∷ []) (be_bytes-two_parts v w a (b / 256) within)
+    ∙ append_assoc (be_bytes v a) (be_bytes w (b / 256)) (b % 256 ∷ [])
 
 -- ---- ⊕ of numbers is ⊕ of their bytes
 

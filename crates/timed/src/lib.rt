@@ -12,18 +12,15 @@ ghost use Rattle.modes.specs.Cbc.{cbc_enciphered};
 ghost use Rattle.modes.specs.Ecb.{ecb};
 ghost use Rattle.modes.specs.InPlace.{left_by};
 
-use cipher::{Cipher, put_block};
+use cipher::Cipher;
 use khazad_lookup::LookupKhazad;
 use modes::{cbc_encipher, ecb_encipher};
 
-// The key of two halves. By two writes: one `u128` of both halves would be written in a line, and proved in twenty.
+// The key of two halves.
 fn key_of(first: u64, second: u64) -> [u8; 16]
     ensures { result ≡ be_bytes 8 first ++ be_bytes 8 second }
 {
-    let mut key = [0; 16];
-    put_block(&mut key, 0, first);
-    put_block(&mut key, 8, second);
-    key
+    (u128::from(first) << 64 | u128::from(second)).to_be_bytes()
 }
 
 // ECB enciphering by the lookup engine of Khazad.
