@@ -1,7 +1,11 @@
--- No two causes have one number.
+-- No two causes have one number, and `==` of two refusals tells whether they are the same cause.
 use Rattle.std.proofs.Common.{◌≡◌, ℕ, cond, ◌==◌, refl, sym, ap, ◌∙◌}
 use Rattle.std.proofs.lemmas.Bool.{eq-eqb, eqb-true}
+use Rattle.std.proofs.lemmas.Bool.Decides.{same_from_decides}
 use Rattle.std.specs.Bool.{Decides}
+use denote.Enum.Bare.{same_true, true_same}
+use Rattle.refusal.specs.contracts.cause.Refusal.{the_type}
+use Rattle.refusal.specs.contracts.cause.RefusalPartialEq.TheImpl.{ghosts}
 use Rattle.refusal.specs.Numbers.{number_of}
 use Rattle.refusal.specs.declared.cause.Refusal.{Refusal}
 use Rattle.refusal.specs.declared.cause.Refusal.TheVariants.{CapOutOfRange, IdleLimitOutOfRange, LastSessionOutOfRange, ClientIsZero, KeysEqual, SessionOutOfRange, StratumOrLeapOutOfRange, WorkBufferTooShort, FrameBufferTooShort, FrameLengthWrong, FrameNumberOutOfRange, TagDiffers, BodyIsNoRecord, NotWholeBlocks, TimeBeforeLatest, ClientHasSession, Full, SessionNumbersUsedUp, SessionNotStanding, FrameNumbersUsedUp, OtherSessionOrKeys, NumberTaken, NumberTooOld}
@@ -62,6 +66,14 @@ cause_of-number_of NumberTooOld = refl
 pub number_of-injective : (x y : Refusal) → number_of x ≡ number_of y → x ≡ y
 number_of-injective x y e = sym (cause_of-number_of x) ∙ ap cause_of e ∙ cause_of-number_of y
 
--- comparing the numbers tells whether the causes are the same; what `==` and `!=` answer follows
+-- comparing the numbers tells whether the causes are the same
 pub number_of-Decides : (x y : Refusal) → Decides (number_of x == number_of y) (x ≡ y)
 number_of-Decides x y = (λ e. number_of-injective x y (eqb-true (number_of x) (number_of y) e), λ e. eq-eqb (number_of x) (number_of y) (ap number_of e))
+
+-- `==` of two refusals tells whether they are the same cause
+pub eq-Decides : (x y : Refusal) → Decides (ghosts.eq x y) (x ≡ y)
+eq-Decides x y = (same_true the_type tt x y, true_same the_type x y)
+
+-- and so whether they have one number
+pub eq-number_of : (x y : Refusal) → ghosts.eq x y ≡ (number_of x == number_of y)
+eq-number_of x y = same_from_decides (ghosts.eq x y) (number_of x == number_of y) (eq-Decides x y) (number_of-Decides x y)

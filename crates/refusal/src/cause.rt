@@ -1,11 +1,14 @@
 // Why a call says no.
 
-ghost use Rattle.std.specs.Prelude.{◌≡◌, ◌==◌, Decides};
+ghost use Rattle.std.specs.Prelude.{◌≡◌, Some};
 ghost use Rattle.refusal.specs.Numbers.{number_of};
-ghost use Rattle.std.specs.Cmp.Rules.{comparing};
-ghost use Rattle.std.proofs.Common.{rules};
+ghost use Rattle.refusal.specs.Texts.{reason_of, text_of};
 
-#[derive(Clone, Copy, Debug)]
+use std::error::Error;
+use std::fmt;
+
+// A cause for which a call says no. Two refusals are equal where they are the same cause, and no two causes have one number.
+#[derive(Clone, Copy, Debug, PartialEq, Eq)]
 pub enum Refusal {
     // Because of what came in.
 
@@ -67,22 +70,52 @@ impl Refusal {
     {
         self as u8
     }
-}
 
-// Two refusals are equal where they are the same cause: no two causes have one number.
-impl PartialEq for Refusal {
-    ghost eq = { λ x y. number_of x == number_of y };
-
-    ghost laws = { Prim.search (comparing, rules) };
-
-    fn eq(&self, other: &Refusal) -> bool
-        ensures value { result ≡ (number_of self.now == number_of other.now) }
-        ensures same_cause { Decides result (self.now ≡ other.now) }
+    // The cause in words.
+    fn reason(self) -> &'static str
+        ensures { result.now ≡ reason_of self }
     {
-        self.number() == other.number()
+        match self {
+            Refusal::CapOutOfRange => "the cap of a head is outside 1 to 256",
+            Refusal::IdleLimitOutOfRange => "the idle limit is outside 1 to 86,400 seconds",
+            Refusal::LastSessionOutOfRange =>
+                "the last session number used is above 1,099,511,627,775",
+            Refusal::ClientIsZero => "the client number is 0",
+            Refusal::KeysEqual => "the sealing key and the check key have equal bytes",
+            Refusal::SessionOutOfRange => "the session number is 0 or above 1,099,511,627,775",
+            Refusal::StratumOrLeapOutOfRange =>
+                "the stratum is outside 1 to 16, or the leap indicator outside 0 to 3",
+            Refusal::WorkBufferTooShort => "the work buffer has under 40 bytes",
+            Refusal::FrameBufferTooShort => "the frame buffer is too short for this frame",
+            Refusal::FrameLengthWrong =>
+                "the length of a frame is outside 24 to 56 bytes, or not whole blocks",
+            Refusal::FrameNumberOutOfRange => "the frame number is outside 1 to 1,048,576",
+            Refusal::TagDiffers => "the tag is not that of the frame",
+            Refusal::BodyIsNoRecord => "the body is no record",
+            Refusal::NotWholeBlocks => "the buffer is not whole blocks",
+            Refusal::TimeBeforeLatest => "the time is before the latest time",
+            Refusal::ClientHasSession => "the client has a standing session",
+            Refusal::Full => "as many sessions stand as the cap allows",
+            Refusal::SessionNumbersUsedUp => "the session numbers are used up",
+            Refusal::SessionNotStanding => "the session does not stand",
+            Refusal::FrameNumbersUsedUp => "1,048,576 frames were posted in the session",
+            Refusal::OtherSessionOrKeys =>
+                "the frame is of another session, or was vouched for under other keys",
+            Refusal::NumberTaken => "a frame of this number was taken already",
+            Refusal::NumberTooOld => "the number is 64 or more below the highest taken",
+        }
     }
 }
 
-impl Eq for Refusal {
-    ghost laws = { Prim.search (comparing, rules) };
+// A refusal is printed as its number and its cause in words.
+impl fmt::Display for Refusal {
+    ghost output = { λ refusal. Some (text_of refusal) };
+
+    fn fmt<W: fmt::Write>(&self, f: &mut fmt::Formatter<W>) -> fmt::Result {
+        let number = self.number();
+        let reason = self.reason();
+        write!(f, "refusal {number}: {reason}")
+    }
 }
+
+impl Error for Refusal {}
