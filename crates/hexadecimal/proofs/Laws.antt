@@ -1,12 +1,12 @@
 -- Laws of hexadecimal digits: reading pair by pair, writing byte by byte, and that reading undoes writing.
-use Rattle.std.proofs.Common.{◌≡◌, ℕ, ◌+◌, ◌-◌, ◌*◌, ◌/◌, ◌%◌, ◌<◌, ◌≤◌, eqb, List, [], ◌∷◌, ◌++◌, length, get_or, take, drop, Some, None, codes, Option, sym, refl, ap, ◌∙◌, append_assoc, append-nil, arith, w8, Fits}
-use lib.Utf8.{encode}
+use Rattle.std.proofs.Common.{◌≡◌, ℕ, ◌+◌, ◌-◌, ◌*◌, ◌/◌, ◌%◌, ◌^◌, ◌<◌, ◌≤◌, false, eqb, List, [], ◌∷◌, ◌++◌, length, get_or, take, drop, Some, None, codes, Option, sym, refl, ap, ◌∙◌, append_assoc, append-nil, arith, w8, Fits}
 use mir.Facts.{Fits-lt-pow}
-use Rattle.std.proofs.lemmas.Str.Ascii.{encode_ascii}
+use Rattle.std.proofs.lemmas.Fmt.{hex_byte}
 use Rattle.std.proofs.ByRecursion.{All-from_get_or}
-use Rattle.std.proofs.lemmas.List.{take_rest, at_drop_more, at_drop_all}
+use Rattle.std.proofs.lemmas.List.{take_rest, take_more, take_all}
 use Rattle.std.proofs.lemmas.Bool.{cond-false, and_left, and_right, ne_eqb}
 use Rattle.std.proofs.lemmas.Bool.Decides.{nat_tests}
+use Rattle.std.specs.Fmt.{digits, padded_integral, format_spec}
 use Rattle.std.specs.Option.{option_map}
 use Rattle.std.specs.List.{AllByRecursion}
 use Rattle.std.specs.Str.{bytes_eq}
@@ -50,33 +50,25 @@ one_digit_left front (c ∷ d ∷ text) h = absurd (omega arith)
 
 -- ---- writing
 
--- one byte more is two digits more
-byte_is_two_digits_more : (front bytes : List ℕ) (i : ℕ) → i < length bytes → ((front ++ mark (get_or bytes i 0 / 16) ∷ []) ++ mark (get_or bytes i 0 % 16) ∷ []) ++ hex (drop (i + 1) bytes) ≡ front ++ hex (drop i bytes)
+hex-append : (front bytes : List ℕ) → hex (front ++ bytes) ≡ hex front ++ hex bytes
 unfolding hex
-byte_is_two_digits_more front bytes i h =
-    append_assoc (front ++ mark (get_or bytes i 0 / 16) ∷ []) (mark (get_or bytes i 0 % 16) ∷ []) (hex (drop (i + 1) bytes)) ∙
-    append_assoc front (mark (get_or bytes i 0 / 16) ∷ []) (mark (get_or bytes i 0 % 16) ∷ hex (drop (i + 1) bytes)) ∙
-    ap (λ text. front ++ text) (sym (at_drop_more hex bytes i 0 h))
+hex-append [] bytes = refl
+hex-append (byte ∷ front) bytes = ap (λ digits. mark (byte / 16) ∷ mark (byte % 16) ∷ digits) (hex-append front bytes)
 
-pub all_written : (front bytes : List ℕ) (i : ℕ) → length bytes ≤ i → front ≡ front ++ hex (drop i bytes)
+-- what is printed of no bytes, and what one byte more is printed as
+pub hex-none : (bytes : List ℕ) → [] ≡ hex (take 0 bytes)
 unfolding hex
-all_written front bytes i h = sym (append-nil front) ∙ ap (λ text. front ++ text) (sym (at_drop_all hex bytes i h))
+hex-none bytes = refl
 
-mark-small : (value : ℕ) → value < 16 → mark value < 128
-mark-small value h = grind (arith, nat_tests)
+pub hex-more : (bytes : List ℕ) (i : ℕ) → i < length bytes → get_or bytes i 0 < 256
+    → hex (take i bytes) ++ padded_integral (format_spec 32 0 4 2 (2 ^ 64 - 1)) false [] (digits 16 false (get_or bytes i 0)) ≡ hex (take (i + 1) bytes)
+unfolding hex
+hex-more bytes i h small =
+    ap (λ digits. hex (take i bytes) ++ digits) (hex_byte false (get_or bytes i 0) small) ∙
+    sym (hex-append (take i bytes) (get_or bytes i 0 ∷ [])) ∙ ap hex (sym (take_more bytes i 0 h))
 
--- a digit is one byte of text
-mark-is_one_byte : (value : ℕ) → value < 16 → encode (mark value) ≡ mark value ∷ []
-mark-is_one_byte value h = encode_ascii (mark value) (mark-small value h)
-
--- the digits of a byte, pushed one after the other
-pub two_pushes_write_a_byte : (front once twice bytes : List ℕ) (i high low : ℕ) → i < length bytes → get_or bytes i 0 < 256 → once ≡ front ++ encode high → twice ≡ once ++ encode low → high ≡ mark (get_or bytes i 0 / 16) → low ≡ mark (get_or bytes i 0 % 16) → twice ++ hex (drop (i + 1) bytes) ≡ front ++ hex (drop i bytes)
-two_pushes_write_a_byte front once twice bytes i high low h small first second up down =
-    let rest = hex (drop (i + 1) bytes) in
-    let one : encode high ≡ mark (get_or bytes i 0 / 16) ∷ [] = ap encode up ∙ mark-is_one_byte (get_or bytes i 0 / 16) (omega arith) in
-    let two : encode low ≡ mark (get_or bytes i 0 % 16) ∷ [] = ap encode down ∙ mark-is_one_byte (get_or bytes i 0 % 16) (omega arith) in
-    let step = byte_is_two_digits_more front bytes i h in
-    cc
+pub hex-all : (bytes : List ℕ) (i : ℕ) → length bytes ≤ i → hex (take i bytes) ≡ hex bytes
+hex-all bytes i h = ap hex (take_all i bytes h)
 
 -- ---- reading what was written
 

@@ -4,17 +4,14 @@ ghost use Rattle.std.specs.Option.{option_map};
 ghost use Rattle.hexadecimal.specs.Hex.{digit, pair, unhex, mark, hex, word_bytes, shown_bytes};
 
 use std::alloc::{AllocError, Global};
+use std::fmt;
 
 // The value of a digit of either case; nothing for any other byte.
 pub fn digit_value(c: u8) -> Option<u8>
     ensures { result ≡ digit c }
 {
-    match c {
-        b'0'..=b'9' => Some(c - b'0'),
-        b'a'..=b'f' => Some(c - b'a' + 10),
-        b'A'..=b'F' => Some(c - b'A' + 10),
-        _ => None,
-    }
+    let value = char::from(c).to_digit(16)?;
+    Some(value as u8)
 }
 
 // The bytes that a text writes, two digits a byte; nothing where the text is not all pairs of digits.
@@ -37,17 +34,47 @@ pub fn decode(heap: Global, text: &[u8]) -> Result<Option<Vec<u8>>, AllocError>
     }
 }
 
+// Bytes that are printed as digits, two a byte, in lower case.
+#[derive(Clone, Copy)]
+struct Digits<'a> {
+    bytes: &'a [u8],
+}
+
+impl fmt::Display for Digits<'_> {
+    ghost output = { λ digits. Some (hex digits.bytes.now) };
+
+    fn fmt<W: fmt::Write>(&self, f: &mut fmt::Formatter<W>) -> fmt::Result {
+        for &byte in self.bytes {
+            write!(f, "{byte:02x}")?;
+        }
+        Ok(())
+    }
+}
+
+// Bytes that are printed as a word: `-` for none, else their digits.
+#[derive(Clone, Copy)]
+pub struct Word<'a> {
+    pub bytes: &'a [u8],
+}
+
+impl fmt::Display for Word<'_> {
+    ghost output = { λ word. Some (shown_bytes word.bytes.now) };
+
+    fn fmt<W: fmt::Write>(&self, f: &mut fmt::Formatter<W>) -> fmt::Result {
+        if self.bytes.is_empty() {
+            return f.write_str("-");
+        }
+        let digits = Digits { bytes: self.bytes };
+        write!(f, "{digits}")
+    }
+}
+
 // The bytes as text, two digits a byte, in lower case. Reading that text gives the bytes again.
 pub fn encode(heap: Global, bytes: &[u8]) -> Result<String, AllocError>
     ensures written { IfOk result (λ s. string_bytes s ≡ hex bytes.now) }
     ensures read_back { IfOk result (λ s. unhex (string_bytes s) ≡ Some bytes.now) }
 {
-    let mut text = String::new(heap);
-    for byte in bytes {
-        text.push(digit_mark(*byte / 16))?;
-        text.push(digit_mark(*byte % 16))?;
-    }
-    Ok(text)
+    Digits { bytes }.to_string(heap)
 }
 
 // The bytes of a word of a line: `-` stands for none. Nothing for the empty word, and for one that is not all pairs of digits.
@@ -66,10 +93,7 @@ pub fn show_bytes(heap: Global, bytes: &[u8]) -> Result<String, AllocError>
     ensures written { IfOk result (λ s. string_bytes s ≡ shown_bytes bytes.now) }
     ensures read_back { IfOk result (λ s. word_bytes (string_bytes s) ≡ Some bytes.now) }
 {
-    if bytes.is_empty() {
-        return String::from_str(heap, "-");
-    }
-    encode(heap, bytes)
+    Word { bytes }.to_string(heap)
 }
 
 // The byte of a high and a low digit; nothing where one of the two is no digit.
@@ -79,16 +103,4 @@ fn byte_value(high: u8, low: u8) -> Option<u8>
     let high = digit_value(high)?;
     let low = digit_value(low)?;
     Some(high * 16 + low)
-}
-
-// The digit of a value below 16, in lower case.
-fn digit_mark(value: u8) -> char
-    requires { value < 16 }
-    ensures { result ≡ mark value }
-{
-    if value < 10 {
-        char::from(b'0' + value)
-    } else {
-        char::from(b'a' + (value - 10))
-    }
 }

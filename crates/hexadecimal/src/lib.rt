@@ -5,4 +5,4 @@
 
 mod digits;
 
-pub use digits::{decode, digit_value, encode, read_word, show_bytes};
+pub use digits::{Word, decode, digit_value, encode, read_word, show_bytes};
