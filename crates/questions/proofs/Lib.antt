@@ -1,3 +1,3 @@
 -- The laws that the proofs of this crate cite.
-mod Asking
+mod Names
 mod Splitting

@@ -1,82 +1,55 @@
--- Laws of a line that is split at its spaces: where its words end, and when they are five.
-use Rattle.std.proofs.Common.{◌≡◌, ℕ, ◌+◌, ◌-◌, ◌<◌, ◌≤◌, true, false, cond, ◌&&◌, eqb, List, [], ◌∷◌, ◌++◌, length, get_or, take, drop, Some, None, sym, refl, ap, ◌∙◌, append_assoc, append-nil, arith}
-use Rattle.std.proofs.lemmas.List.{at_drop_more, at_drop_all, take_more, take_all, take_rest}
-use Rattle.std.proofs.lemmas.Bool.{cond-true, cond-false, eq-eqb, ne_eqb, and_left, cond_both}
-use Rattle.questions.specs.Words.{onto_first, split_words, all_filled, five_words, unended}
+-- Laws of a line that is split at its spaces: where its first word ends, and that six words are no five.
+use Rattle.std.proofs.Common.{◌≡◌, ℕ, ◌+◌, ◌-◌, ◌<◌, ◌≤◌, Bool, false, eqb, List, [], ◌∷◌, length, take, drop, Some, None, MatchOption, Option, sym, refl, ap, ◌∙◌, subst, cond, ltb, arith}
+use Rattle.std.proofs.lemmas.Bool.{cond-false, cond_both, ltb-true, ltb-false, ne_eqb, and_left}
+use Rattle.std.proofs.lemmas.List.{take_rest}
+use Rattle.std.proofs.lemmas.List.Elements.{All-from_get_or}
+use Rattle.std.proofs.lemmas.List.Splits.{slice_split_first, slice_split_none, length-slice_split}
+use Rattle.std.proofs.lemmas.List.Sums.{fails_before_first}
+use Rattle.std.specs.List.{slice_split, position, position_or_len}
+use Rattle.std.specs.List as std
+use Rattle.questions.specs.Words.{onto_first, split_words, all_filled, five_words}
 
-onto_first-twice : (front : List ℕ) (c : ℕ) (words : List (List ℕ)) → onto_first front (onto_first (c ∷ []) words) ≡ onto_first (front ++ c ∷ []) words
-onto_first-twice front c [] = refl
-onto_first-twice front c (word ∷ words) = ap (λ first. first ∷ words) (sym (append_assoc front (c ∷ []) word))
+abbrev pub is_space : ℕ → Bool
+is_space c = eqb c 32
 
-at_space : (c : ℕ) (line : List ℕ) → c ≡ 32 → split_words (c ∷ line) ≡ [] ∷ split_words line
+onto_first-same : (c : ℕ) (words : List (List ℕ)) → onto_first (c ∷ []) words ≡ std.onto_first c words
+onto_first-same c [] = refl
+onto_first-same c (word ∷ words) = refl
+
+-- the words of a line are its parts between spaces, in the library's words
+split_words-slice_split : (line : List ℕ) → split_words line ≡ slice_split is_space line
 unfolding split_words
-at_space c line e = cond-true (eqb c 32) ([] ∷ split_words line) (onto_first (c ∷ []) (split_words line)) (eq-eqb c 32 e)
+split_words-slice_split [] = refl
+split_words-slice_split (c ∷ line) =
+    ap (λ words. cond (is_space c) ([] ∷ words) (onto_first (c ∷ []) words)) (split_words-slice_split line)
+    ∙ ap (λ words. cond (is_space c) ([] ∷ slice_split is_space line) words) (onto_first-same c (slice_split is_space line))
 
-at_other : (c : ℕ) (line : List ℕ) → (c ≡ 32 → ⊥) → split_words (c ∷ line) ≡ onto_first (c ∷ []) (split_words line)
-unfolding split_words
-at_other c line e = cond-false (eqb c 32) ([] ∷ split_words line) (onto_first (c ∷ []) (split_words line)) (ne_eqb c 32 e)
-
--- a mark that is no space belongs to the first word
-pub other_mark_goes_on : (line : List ℕ) (i : ℕ) → i < length line → (get_or line i 0 ≡ 32 → ⊥) → split_words line ≡ onto_first (take i line) (split_words (drop i line)) → split_words line ≡ onto_first (take (i + 1) line) (split_words (drop (i + 1) line))
-other_mark_goes_on line i h other before =
-    before ∙ ap (onto_first (take i line)) (at_drop_more split_words line i 0 h ∙ at_other (get_or line i 0) (drop (i + 1) line) other) ∙
-    onto_first-twice (take i line) (get_or line i 0) (split_words (drop (i + 1) line)) ∙ ap (λ front. onto_first front (split_words (drop (i + 1) line))) (sym (take_more line i 0 h))
-
--- a space ends the first word
-pub space_ends_the_word : (line : List ℕ) (i : ℕ) → i < length line → get_or line i 0 ≡ 32 → split_words line ≡ onto_first (take i line) (split_words (drop i line)) → split_words line ≡ take (i - 0) line ∷ split_words (take (length line - (i + 1)) (drop (i + 1) line))
-space_ends_the_word line i h space before =
-    let whole : i ≡ i - 0 = omega arith in
-    before ∙ ap (onto_first (take i line)) (at_drop_more split_words line i 0 h ∙ at_space (get_or line i 0) (drop (i + 1) line) space) ∙ ap (λ word. word ∷ split_words (drop (i + 1) line)) (append-nil (take i line)) ∙
-    ap (λ n. take n line ∷ split_words (drop (i + 1) line)) whole ∙ ap (λ rest. take (i - 0) line ∷ split_words rest) (sym (take_rest line (i + 1)))
+-- the first space ends the first word
+space_ends_the_word : (line : List ℕ) → position_or_len is_space line < length line
+    → split_words line ≡ take (position_or_len is_space line) line ∷ split_words (take (length line - (position_or_len is_space line + 1)) (drop (position_or_len is_space line + 1) line))
+space_ends_the_word line h =
+    let i = position_or_len is_space line in
+    split_words-slice_split line ∙ slice_split_first is_space line 0 h ∙ ap (λ words. take i line ∷ words) (sym (split_words-slice_split (drop (i + 1) line)))
+    ∙ ap (λ rest. take i line ∷ split_words rest) (sym (take_rest line (i + 1)))
 
 -- with no space the line is one word
-pub no_space_is_one_word : (line : List ℕ) (i : ℕ) → length line ≤ i → split_words line ≡ onto_first (take i line) (split_words (drop i line)) → split_words line ≡ line ∷ []
-unfolding split_words
-no_space_is_one_word line i h before =
-    before ∙ ap (onto_first (take i line)) (at_drop_all split_words line i h) ∙ ap (λ word. word ∷ []) (append-nil (take i line) ∙ take_all i line h)
+no_space_is_one_word : (line : List ℕ) → length line ≤ position_or_len is_space line → split_words line ≡ line ∷ []
+no_space_is_one_word line h =
+    split_words-slice_split line ∙ slice_split_none is_space line (All-from_get_or (λ c. is_space c ≡ false) line 0 (λ k below. fails_before_first is_space line k 0 (omega arith)))
 
-onto_nothing : (words : List (List ℕ)) → 0 < length words → words ≡ onto_first [] words
-onto_nothing [] h = absurd (omega arith)
-onto_nothing (word ∷ words) h = refl
-
-some_onto_first : (front : List ℕ) (words : List (List ℕ)) → 0 < length (onto_first front words)
-some_onto_first front [] = omega arith
-some_onto_first front (word ∷ words) = omega arith
-
--- even an empty line is a word
-pub some_word : (line : List ℕ) → 0 < length (split_words line)
-unfolding split_words
-some_word [] = omega arith
-some_word (c ∷ line) = cond_both (eqb c 32) ([] ∷ split_words line) (onto_first (c ∷ []) (split_words line)) (λ words. 0 < length words) (λ _. omega arith) (λ _. some_onto_first (c ∷ []) (split_words line))
-
-pub nothing_passed : (line : List ℕ) → split_words line ≡ onto_first (take 0 line) (split_words (drop 0 line))
-nothing_passed line = onto_nothing (split_words line) (some_word line)
-
--- a line of another number of words is not of the form
-pub not_five : (line : List ℕ) (words : List (List ℕ)) → split_words line ≡ words → eqb (length words) 5 ≡ false → None ≡ five_words line
-unfolding five_words
-not_five line words e other = sym (cond-false (eqb (length (split_words line)) 5 && all_filled (split_words line)) (Some (split_words line)) None (and_left (eqb (length (split_words line)) 5) (all_filled (split_words line)) (ap (λ ws. eqb (length ws) 5) e ∙ other)))
-
--- a line of five words is of the form where none is empty
-five : (line : List ℕ) (words : List (List ℕ)) → split_words line ≡ words → eqb (length words) 5 ≡ true → cond (all_filled words) (Some words) None ≡ five_words line
-unfolding five_words
-five line words e same = ap (λ t. cond (t && all_filled words) (Some words) None) (sym same) ∙ ap (λ ws. cond (eqb (length ws) 5 && all_filled ws) (Some ws) None) (sym e)
-
-pub filled-five : (line : List ℕ) (words : List (List ℕ)) → split_words line ≡ words → eqb (length words) 5 ≡ true → true ≡ all_filled words → Some words ≡ five_words line
-filled-five line words e same all = ap (λ t. cond t (Some words) None) all ∙ five line words e same
-
-pub unfilled_five : (line : List ℕ) (words : List (List ℕ)) → split_words line ≡ words → eqb (length words) 5 ≡ true → false ≡ all_filled words → None ≡ five_words line
-unfilled_five line words e same all = ap (λ t. cond t (Some words) None) all ∙ five line words e same
-
--- the words of what follows the first
-pub then_words : (line word rest : List ℕ) (words : List (List ℕ)) → split_words line ≡ word ∷ split_words rest → split_words rest ≡ words → split_words line ≡ word ∷ words
-then_words line word rest words first others = first ∙ ap (λ ws. word ∷ ws) others
+pub at_first_space : (line : List ℕ) (found : Option ℕ) → found ≡ position is_space line
+    → MatchOption found (split_words line ≡ line ∷ []) (λ i. split_words line ≡ take i line ∷ split_words (take (length line - (i + 1)) (drop (i + 1) line)))
+at_first_space line found e =
+    let n = position_or_len is_space line in
+    subst (λ o. MatchOption o (split_words line ≡ line ∷ []) (λ i. split_words line ≡ take i line ∷ split_words (take (length line - (i + 1)) (drop (i + 1) line)))) (sym e)
+    (cond_both (ltb n (length line)) (Some n) None (λ o. MatchOption o (split_words line ≡ line ∷ []) (λ i. split_words line ≡ take i line ∷ split_words (take (length line - (i + 1)) (drop (i + 1) line))))
+    (λ t. space_ends_the_word line (ltb-true n (length line) t)) (λ t. no_space_is_one_word line (ltb-false n (length line) t)))
 
 -- five words and a space are more than five words
 pub six_or_more : (line a b c d e rest : List ℕ) → split_words line ≡ a ∷ b ∷ c ∷ d ∷ e ∷ split_words rest → None ≡ five_words line
-six_or_more line a b c d e rest same = not_five line (a ∷ b ∷ c ∷ d ∷ e ∷ split_words rest) same (ne_eqb (length (a ∷ b ∷ c ∷ d ∷ e ∷ split_words rest)) 5 (λ five. omega (arith, some_word rest)))
-
--- no bytes have no newline
-pub nothing_is_unended : (line : List ℕ) → length line ≡ 0 → line ≡ unended line
-nothing_is_unended [] h = refl
-nothing_is_unended (c ∷ line) h = absurd (omega arith)
+unfolding five_words
+six_or_more line a b c d e rest same =
+    let more : length (split_words rest) ≡ std.count_by is_space rest + 1 = ap length (split_words-slice_split rest) ∙ length-slice_split is_space rest in
+    let long = ap length same in
+    let no : eqb (length (split_words line)) 5 ≡ false = ne_eqb (length (split_words line)) 5 (λ five. omega arith) in
+    sym (cond-false _ _ _ (and_left _ (all_filled (split_words line)) no))

@@ -2,7 +2,6 @@
 
 ghost use Rattle.std.specs.Prelude.{◌≡◌, IfOk, Some};
 ghost use Rattle.std.specs.Option.{option_map};
-ghost use Rattle.std.specs.Str.{bytes_eq};
 ghost use Rattle.modes.specs.InPlace.{answered, left_by};
 ghost use Rattle.questions.specs.Answer.{engine_of, unchained_of, chained_of, operation_of, exactly, of_length, contents, question_of, mode_of, said, said_by, answer_to};
 ghost use Rattle.questions.specs.Words.{parts};
@@ -17,21 +16,13 @@ use modes::{cbc_decipher, cbc_encipher, cmac, ecb_decipher, ecb_encipher};
 use refusal::Refusal;
 use std::alloc::{AllocError, Global};
 
-// Whether a word is a name.
-fn is_named(word: &[u8], name: &[u8]) -> bool
-    ensures { result ≡ bytes_eq word.now name.now }
-{
-    word == name
-}
-
 // The engine that a word names.
 pub fn engine_named(word: &[u8]) -> Option<Engine>
     ensures { result ≡ engine_of word.now }
 {
-    if is_named(word, b"khazad-field") {
-        Some(Engine::KhazadField)
-    } else {
-        None
+    match word {
+        b"khazad-field" => Some(Engine::KhazadField),
+        _ => None,
     }
 }
 
@@ -39,14 +30,11 @@ pub fn engine_named(word: &[u8]) -> Option<Engine>
 fn unchained_named(word: &[u8]) -> Option<Operation>
     ensures { result ≡ unchained_of word.now }
 {
-    if is_named(word, b"ecb-encipher") {
-        Some(Operation::InPlace(Mode::EcbEncipher))
-    } else if is_named(word, b"ecb-decipher") {
-        Some(Operation::InPlace(Mode::EcbDecipher))
-    } else if is_named(word, b"cmac") {
-        Some(Operation::Cmac)
-    } else {
-        None
+    match word {
+        b"ecb-encipher" => Some(Operation::InPlace(Mode::EcbEncipher)),
+        b"ecb-decipher" => Some(Operation::InPlace(Mode::EcbDecipher)),
+        b"cmac" => Some(Operation::Cmac),
+        _ => None,
     }
 }
 
@@ -54,36 +42,23 @@ fn unchained_named(word: &[u8]) -> Option<Operation>
 fn chained_named(word: &[u8], start: u64) -> Option<Operation>
     ensures { result ≡ chained_of word.now start }
 {
-    if is_named(word, b"cbc-encipher") {
-        Some(Operation::InPlace(Mode::CbcEncipher(start)))
-    } else if is_named(word, b"cbc-decipher") {
-        Some(Operation::InPlace(Mode::CbcDecipher(start)))
-    } else {
-        None
+    match word {
+        b"cbc-encipher" => Some(Operation::InPlace(Mode::CbcEncipher(start))),
+        b"cbc-decipher" => Some(Operation::InPlace(Mode::CbcDecipher(start))),
+        _ => None,
     }
 }
 
 // The operation that a word names, with the bytes of its starting block: eight where it takes one, else none.
+#[tactic(auto, unfolding(crate::specs::Answer::operation_of))]
 pub fn operation_named(word: &[u8], start: &[u8]) -> Option<Operation>
     ensures { result ≡ operation_of word.now start.now }
 {
     if start.is_empty() {
         return unchained_named(word);
     }
-    let Some(start) = array_of::<8>(start) else {
-        return None;
-    };
+    let start = <[u8; 8]>::try_from(start).ok()?;
     chained_named(word, block_of(start))
-}
-
-// Bytes as an array of just as many.
-fn array_of<const N: usize>(bytes: &[u8]) -> Option<[u8; N]>
-    ensures { result ≡ of_length N (Some bytes.now) }
-{
-    match <[u8; N]>::try_from(bytes) {
-        Ok(array) => Some(array),
-        Err(_) => None,
-    }
 }
 
 // The bytes of a word that writes just as many.
@@ -93,10 +68,11 @@ pub fn exact_bytes<const N: usize>(heap: Global, word: &[u8]) -> Result<Option<[
     let Some(bytes) = read_word(heap, word)? else {
         return Ok(None);
     };
-    Ok(array_of(bytes.as_slice()))
+    Ok(<[u8; N]>::try_from(bytes.as_slice()).ok())
 }
 
 // The question that five words ask, if they ask one.
+#[tactic(auto, unfolding(crate::specs::Answer::question_of))]
 pub fn read_question(heap: Global, words: &Words<'_>) -> Result<Option<Question>, AllocError>
     ensures { IfOk result (λ o. option_map contents o ≡ question_of (parts words.now)) }
 {
@@ -124,6 +100,7 @@ pub fn read_question(heap: Global, words: &Words<'_>) -> Result<Option<Question>
 }
 
 // A mode over a buffer, by any cipher.
+// It stays a match: a closure for each mode would wrap the same four calls, and name the mode in another place.
 fn work_in_place<C: Cipher>(cipher: &C, mode: Mode, buffer: &mut [u8]) -> Result<(), Refusal>
     ensures result { result ≡ answered buffer.old }
     ensures written { buffer.new ≡ left_by (mode_of (C.enciphered (C.key cipher.now)) (C.deciphered (C.key cipher.now)) mode) buffer.old }
@@ -155,6 +132,7 @@ fn answer_by<C: Cipher + Drop>(heap: Global, question: Question) -> Result<Reply
 }
 
 // What is replied to a line, whatever bytes it has.
+#[tactic(auto, unfolding(crate::specs::Answer::answer_to))]
 pub fn answer(heap: Global, line: &[u8]) -> Result<Reply, AllocError>
     ensures { IfOk result (λ reply. said reply ≡ answer_to line.now) }
 {

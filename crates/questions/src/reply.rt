@@ -2,7 +2,7 @@
 ghost use Rattle.std.specs.Prelude.{◌≡◌, IfOk, Some, string_bytes};
 ghost use Rattle.questions.specs.Reply.{shown, none_counted, counted, tally_line};
 
-use hexadecimal::show_bytes;
+use hexadecimal::Word;
 use refusal::Refusal;
 use std::alloc::{AllocError, Global};
 use std::fmt;
@@ -15,24 +15,36 @@ pub enum Reply {
     NotUnderstood,
 }
 
-impl Reply {
-    // The reply as it is printed: the bytes as a word, `!` and the number of a refusal, or `?`.
-    pub fn text(&self, heap: Global) -> Result<String, AllocError>
-        ensures { IfOk result (λ s. string_bytes s ≡ shown self.now) }
-    {
+// A reply is printed as its bytes as a word, as `!` and the number of a refusal, or as `?`.
+impl fmt::Display for Reply {
+    ghost output = { λ reply. Some (shown reply) };
+
+    fn fmt<W: fmt::Write>(&self, f: &mut fmt::Formatter<W>) -> fmt::Result {
         match self {
-            Reply::Bytes(bytes) => show_bytes(heap, bytes),
+            Reply::Bytes(bytes) => {
+                let word = Word { bytes };
+                write!(f, "{word}")
+            }
             Reply::Refused(refusal) => {
                 let number = refusal.number();
-                format!(in heap; "!{number}")
+                write!(f, "!{number}")
             }
-            Reply::NotUnderstood => String::from_str(heap, "?"),
+            Reply::NotUnderstood => f.write_str("?"),
         }
     }
 }
 
+impl Reply {
+    // The reply as it is printed.
+    pub fn text(&self, heap: Global) -> Result<String, AllocError>
+        ensures { IfOk result (λ s. string_bytes s ≡ shown self.now) }
+    {
+        self.to_string(heap)
+    }
+}
+
 // How many questions had each kind of reply.
-#[derive(Clone, Copy)]
+#[derive(Clone, Copy, Default)]
 pub struct Tally {
     answered: u64,
     refused: u64,
@@ -44,11 +56,7 @@ impl Tally {
     pub fn new() -> Tally
         ensures { result ≡ none_counted }
     {
-        Tally {
-            answered: 0,
-            refused: 0,
-            not_understood: 0,
-        }
+        Tally::default()
     }
 
     // Counts one reply more, as what it is. A count that is full stays full.

@@ -16,6 +16,7 @@ pub struct Words<'a> {
 const SPACE: u8 = b' ';
 
 // The words of a line that is five words, none empty, with one space between two neighbours and nothing else.
+#[tactic(auto, unfolding(crate::specs::Words::five_words))]
 pub fn five_words(line: &[u8]) -> Option<Words<'_>>
     ensures { option_map parts result ≡ five_words line.now }
 {
@@ -33,11 +34,7 @@ pub fn five_words(line: &[u8]) -> Option<Words<'_>>
         start,
         text,
     };
-    if words.are_filled() {
-        Some(words)
-    } else {
-        None
-    }
+    words.are_filled().then_some(words)
 }
 
 impl Words<'_> {
@@ -45,11 +42,8 @@ impl Words<'_> {
     fn are_filled(&self) -> bool
         ensures { result ≡ all_filled (parts self.now) }
     {
-        !self.cipher.is_empty()
-            && !self.operation.is_empty()
-            && !self.key.is_empty()
-            && !self.start.is_empty()
-            && !self.text.is_empty()
+        let words = [self.cipher, self.operation, self.key, self.start, self.text];
+        words.iter().all(|word| !word.is_empty())
     }
 }
 
@@ -57,26 +51,13 @@ impl Words<'_> {
 fn cut(text: &[u8]) -> Option<(&[u8], &[u8])>
     ensures { MatchOption result (split_words text.now ≡ text.now ∷ []) (λ p. split_words text.now ≡ p.0.now ∷ split_words p.1.now) }
 {
-    for (i, c) in text.iter().enumerate() {
-        if *c == SPACE {
-            return Some((&text[0..i], &text[i + 1..]));
-        }
-    }
-    None
+    let i = text.iter().position(|c| *c == SPACE)?;
+    Some((&text[..i], &text[i + 1..]))
 }
-
-const NEWLINE: u8 = b'\n';
 
 // A line without the newline that ends it; the last line of an input may have none.
 pub fn without_newline(line: &[u8]) -> &[u8]
     ensures { result.now ≡ unended line.now }
 {
-    if line.is_empty() {
-        return line;
-    }
-    let last = line.len() - 1;
-    if line[last] == NEWLINE {
-        return &line[0..last];
-    }
-    line
+    line.strip_suffix(b"\n").unwrap_or(line)
 }

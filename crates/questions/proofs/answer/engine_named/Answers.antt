@@ -1,9 +1,14 @@
-use Rattle.std.proofs.Common.{sym, ◌∙◌}
-use Rattle.std.proofs.lemmas.Bool.{cond-true, cond-false}
+use Rattle.std.proofs.Common.{◌≡◌, codes, rules, sym, ap}
+use Rattle.std.proofs.lemmas.Slice.Eq.{text_from_reads}
+use Rattle.std.proofs.lemmas.Bool.{cond-false}
+use Rattle.questions.specs.Answer.{engine_of}
+use Rattle.questions.proofs.Names.{differs}
 use Rattle.questions.proofs.answer.engine_named.Goals as goal
 
-pub returns-then-is_named : goal.returns-then-is_named
-returns-then-is_named c = sym (cond-true _ _ _ (sym c.is_named.ensures ∙ c.if-is_named.true))
+pub returns-in-107 : goal.returns-in-107
+returns-in-107 c =
+    let name : c.args.word.now ≡ codes "khazad-field" = text_from_reads _ _ (search rules) (search rules) in
+    sym (ap engine_of name)
 
-pub returns-else-is_named : goal.returns-else-is_named
-returns-else-is_named c = sym (cond-false _ _ _ (sym c.is_named.ensures ∙ c.if-is_named.false))
+pub returns-in_default-3 : goal.returns-in_default-3
+returns-in_default-3 c = sym (cond-false _ _ _ (differs c.args.word.now (codes "khazad-field") 10 (search rules)))

@@ -1,15 +1,17 @@
 -- The first space ends the first word.
-use Rattle.questions.proofs.Splitting.{nothing_passed, other_mark_goes_on, space_ends_the_word, no_space_is_one_word}
+use Rattle.std.proofs.Common.{◌≡◌, rules, tests, sym, ◌∙◌, Some, None}
+use Rattle.std.proofs.lemmas.Iterator.{YieldsList-from_slice}
+use Rattle.std.proofs.lemmas.Iterator.Search.{position_from_yields_List}
+use Rattle.std.specs.List.{position}
+use Rattle.questions.proofs.Splitting.{is_space, at_first_space}
 use Rattle.questions.proofs.words.cut.Goals as goal
 
-pub loop-i-init : goal.loop-i-init
-loop-i-init c = nothing_passed c.args.text.now
-
-pub loop-i-preserved : goal.loop-i-preserved
-loop-i-preserved c = other_mark_goes_on c.args.text.now c.loop-i.i c.loop-i-test.true c.if-c-eq-SPACE.false c.loop-i.invariant
-
-pub returns-then-c-eq-SPACE : goal.returns-then-c-eq-SPACE
-returns-then-c-eq-SPACE c = space_ends_the_word c.args.text.now c.loop-i.i c.loop-i-test.true c.if-c-eq-SPACE.true c.loop-i.invariant
+pub returns-in_err-i : goal.returns-in_err-i
+returns-in_err-i c =
+    let found : c.position.result ≡ position is_space c.args.text.now = position_from_yields_List is_space _ _ c.position.result c.position.ensures.ran (YieldsList-from_slice _ c.iter.ensures.rest) (λ x b q k. search (rules, tests)) in
+    rw c.from_residual.ensures (at_first_space c.args.text.now None (sym c.in_err-i.was ∙ found))
 
 pub returns : goal.returns
-returns c = no_space_is_one_word c.args.text.now c.loop-i.i c.loop-i-test.false c.loop-i.invariant
+returns c =
+    let found : c.position.result ≡ position is_space c.args.text.now = position_from_yields_List is_space _ _ c.position.result c.position.ensures.ran (YieldsList-from_slice _ c.iter.ensures.rest) (λ x b q k. search (rules, tests)) in
+    at_first_space c.args.text.now (Some c.in_ok-i.i) (sym c.in_ok-i.was ∙ found)
