@@ -3,23 +3,16 @@
 
 use questions::answer::answer;
 use questions::reply::Tally;
-use questions::words::without_newline;
 use std::io::{BufRead, BufReader};
 
 fn reply_to_all(rt: &HostRuntime) -> anyhow::Result<()> {
     let heap = rt.alloc();
-    let mut input = BufReader::new(heap, rt.stdin())?;
-    let mut line = Vec::new(heap);
+    let input = BufReader::new(heap, rt.stdin())?;
     let mut tally = Tally::new();
-    for _ in 0..u64::MAX {
-        line.clear();
-        if input.read_until(b'\n', &mut line)? == 0 {
-            break;
-        }
-        let reply = answer(heap, without_newline(line.as_slice()))?;
+    for line in input.split(heap, b'\n') {
+        let reply = answer(heap, line?.as_slice())?;
         tally.count(&reply);
-        let text = reply.text(heap)?;
-        println!(rt; "{text}")?;
+        println!(rt; "{reply}")?;
     }
     println!(rt; "{tally}")?;
     Ok(())
