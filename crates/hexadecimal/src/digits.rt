@@ -15,6 +15,7 @@ pub fn digit_value(c: u8) -> Option<u8>
 }
 
 // The bytes that a text writes, two digits a byte; nothing where the text is not all pairs of digits.
+#[tactic(auto, unfolding(crate::specs::Hex::unhex))]
 pub fn decode(heap: Global, text: &[u8]) -> Result<Option<Vec<u8>>, AllocError>
     ensures { IfOk result (λ o. option_map vec_items o ≡ unhex text.now) }
 {
@@ -60,6 +61,7 @@ pub struct Word<'a> {
 impl fmt::Display for Word<'_> {
     ghost output = { λ word. Some (shown_bytes word.bytes.now) };
 
+    #[tactic(auto, unfolding(crate::specs::Hex::shown_bytes))]
     fn fmt<W: fmt::Write>(&self, f: &mut fmt::Formatter<W>) -> fmt::Result {
         if self.bytes.is_empty() {
             return f.write_str("-");
@@ -78,6 +80,7 @@ pub fn encode(heap: Global, bytes: &[u8]) -> Result<String, AllocError>
 }
 
 // The bytes of a word of a line: `-` stands for none. Nothing for the empty word, and for one that is not all pairs of digits.
+#[tactic(auto, unfolding(crate::specs::Hex::word_bytes))]
 pub fn read_word(heap: Global, word: &[u8]) -> Result<Option<Vec<u8>>, AllocError>
     ensures { IfOk result (λ o. option_map vec_items o ≡ word_bytes word.now) }
 {
