@@ -1,3 +1,4 @@
+-- A word of these bytes is the name.
 use Rattle.std.proofs.Common.{◌≡◌, codes, rules, sym, ap}
 use Rattle.std.proofs.lemmas.Slice.Eq.{text_from_reads}
 use Rattle.questions.specs.Answer.{chained_of}

@@ -1,3 +1,4 @@
+-- A word of these bytes is the name, and one that is another at the last byte but one is not.
 use Rattle.std.proofs.Common.{◌≡◌, codes, rules, sym, ap}
 use Rattle.std.proofs.lemmas.Slice.Eq.{text_from_reads}
 use Rattle.std.proofs.lemmas.Bool.{cond-false}
