@@ -8,6 +8,7 @@ use std::alloc::{AllocError, Global};
 use std::fmt;
 
 // The answer to one question: bytes, a refusal, or that the line was no question.
+// Not an `Option` of a `Result`: that a line is no question is an answer like the others, and is counted as one.
 #[derive(Drop)]
 pub enum Reply {
     Bytes(Vec<u8>),
