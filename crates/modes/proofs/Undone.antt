@@ -66,6 +66,25 @@ module _ (there back : ℕ → ℕ) (law : Inverse there back) where
       let same = ap there (xor_twice (back C) before) ∙ law.there_undoes C hc in
       (xor_lt 64 (back C) before (law.back_to_blocks C hc) hb, hc, same, same))
 
+  -- the parts of these three, each by its name
+  ecb-blocks : (bs : List ℕ) → All Block bs → All Block (ecb there bs)
+  ecb-blocks = ecb-undone.to_blocks
+
+  ecb-back_again : (bs : List ℕ) → All Block bs → ecb back (ecb there bs) ≡ bs
+  ecb-back_again = ecb-undone.back_again
+
+  enciphered_blocks : (bs : List ℕ) (start : ℕ) → Block start → All Block bs → All Block (cbc_enciphered there start bs)
+  enciphered_blocks bs start hs = (cbc_undone start hs).to_blocks bs
+
+  deciphered_again : (bs : List ℕ) (start : ℕ) → Block start → All Block bs → cbc_deciphered back start (cbc_enciphered there start bs) ≡ bs
+  deciphered_again bs start hs = (cbc_undone start hs).back_again bs
+
+  deciphered_blocks : (bs : List ℕ) (start : ℕ) → Block start → All Block bs → All Block (cbc_deciphered back start bs)
+  deciphered_blocks bs start hs = (cbc_redone start hs).to_blocks bs
+
+  enciphered_again : (bs : List ℕ) (start : ℕ) → Block start → All Block bs → cbc_enciphered there start (cbc_deciphered back start bs) ≡ bs
+  enciphered_again bs start hs = (cbc_redone start hs).back_again bs
+
 -- ---- of buffers
 
 module _ {there back : List ℕ → List ℕ} (undoes : Undoes there back) {buffer left : List ℕ} (each : All Byte buffer) (written : left ≡ left_by there buffer) where
