@@ -1,8 +1,8 @@
 -- Laws of hexadecimal digits: reading pair by pair, writing byte by byte, and that reading undoes writing.
 use Rattle.std.proofs.Common.{◌≡◌, ℕ, ◌+◌, ◌-◌, ◌*◌, ◌/◌, ◌%◌, ◌^◌, ◌<◌, ◌≤◌, false, eqb, List, [], ◌∷◌, ◌++◌, length, get_or, take, drop, Some, None, Option, sym, refl, ap, ◌∙◌, append_assoc, arith, w8, Fits}
 use mir.Facts.{Fits-lt-pow}
-use Rattle.std.proofs.ByRecursion.{All-from_get_or}
-use Rattle.std.specs.List.{AllByRecursion}
+use Rattle.std.proofs.lemmas.List.Elements.{All-from_get_or, All-head, All-tail}
+use Rattle.std.specs.List.{All}
 use Rattle.std.proofs.lemmas.Fmt.{hex_byte}
 use Rattle.std.proofs.lemmas.List.{take_rest, take_more, take_all}
 use Rattle.std.proofs.lemmas.Bool.{cond-false, and_right}
@@ -62,17 +62,19 @@ pair-of_byte byte h =
     let whole : byte / 16 * 16 + byte % 16 ≡ byte = omega arith in
     ap (λ o. pair o (digit (mark (byte % 16)))) (digit-of_mark (byte / 16) high) ∙ ap (pair (Some (byte / 16))) (digit-of_mark (byte % 16) low) ∙ ap Some whole
 
-pub all_bytes : (bytes : List ℕ) → ((i : ℕ) → Fits w8 (get_or bytes i 0)) → AllByRecursion (λ byte. byte < 256) bytes
+pub all_bytes : (bytes : List ℕ) → ((i : ℕ) → Fits w8 (get_or bytes i 0)) → All (λ byte. byte < 256) bytes
 all_bytes bytes fits = All-from_get_or (λ byte. byte < 256) bytes 0 (λ i h. Fits-lt-pow (fits i))
 
 -- what is written as digits is read back
-pub unhex-undoes_hex : (bytes : List ℕ) → AllByRecursion (λ byte. byte < 256) bytes → unhex (hex bytes) ≡ Some bytes
+pub unhex-undoes_hex : (bytes : List ℕ) → All (λ byte. byte < 256) bytes → unhex (hex bytes) ≡ Some bytes
 unfolding unhex hex
 unhex-undoes_hex [] h = refl
-unhex-undoes_hex (byte ∷ rest) h = ap (λ o. before o (unhex (hex rest))) (pair-of_byte byte h.0) ∙ ap (before (Some byte)) (unhex-undoes_hex rest h.1)
+unhex-undoes_hex (byte ∷ rest) h =
+    ap (λ o. before o (unhex (hex rest))) (pair-of_byte byte (All-head (λ b. b < 256) byte rest h))
+    ∙ ap (before (Some byte)) (unhex-undoes_hex rest (All-tail (λ b. b < 256) byte rest h))
 
 -- what is written as a word is read back: of some bytes it is two digits or more, and no dash
-pub reading_undoes_showing : (bytes : List ℕ) → AllByRecursion (λ byte. byte < 256) bytes → word_bytes (shown_bytes bytes) ≡ Some bytes
+pub reading_undoes_showing : (bytes : List ℕ) → All (λ byte. byte < 256) bytes → word_bytes (shown_bytes bytes) ≡ Some bytes
 unfolding shown_bytes word_bytes hex
 reading_undoes_showing [] h = refl
 reading_undoes_showing (byte ∷ bytes) h = cond-false _ _ _ (and_right (eqb (mark (byte / 16)) 45) _ refl) ∙ unhex-undoes_hex (byte ∷ bytes) h
