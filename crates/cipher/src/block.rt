@@ -19,8 +19,8 @@ pub fn block_of(bytes: [u8; 8]) -> u64
     u64::from_be_bytes(bytes)
 }
 
-// The block at a place of some bytes. For the rooms above, which know that eight bytes lie there; no host calls it.
-// By a place, as `put_block` is: a walk in place reads and writes at one and the same.
+// The block at a place of some bytes. For the crates above, which know that eight bytes lie there; no host calls it.
+// By a place, as `put_block` is: a walk in place reads and writes at one place.
 pub fn block_at(bytes: &[u8], at: usize) -> u64
     requires { at + 8 ≤ length bytes.now }
     ensures { result ≡ be_number (between at (at + 8) bytes.now) }
@@ -30,7 +30,7 @@ pub fn block_at(bytes: &[u8], at: usize) -> u64
     block_of(eight)
 }
 
-// Writes a block over the eight bytes at a place. For the rooms above, which know that eight bytes lie there; no host calls it.
+// Writes a block over the eight bytes at a place. For the crates above, which know that eight bytes lie there; no host calls it.
 // By a place: what is written through a chunk that `chunks_exact_mut` lends is not known to a proof.
 pub fn put_block(bytes: &mut [u8], at: usize, block: u64)
     requires { at + 8 ≤ length bytes.old }

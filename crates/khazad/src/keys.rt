@@ -9,10 +9,11 @@ use crate::layers::Layers;
 use cipher::block_at;
 use std::array;
 
-// The number of the last round.
-const LAST: usize = 8;
+// The number of the last round. Rounds are numbered by `usize`, since the library's `from_fn` and arrays are: a type for a number
+// below nine would be made of one at each call, and read back as one at each look-up.
+const LAST_ROUND: usize = 8;
 
-// K(r), from the two before it. c(r), the constant of round r, is γ of the bytes 8r to 8r + 7.
+// K(r), from K(r - 2), which is `before`, and K(r - 1), which is `last`. c(r), the constant of round r, is γ of the bytes 8r to 8r + 7.
 fn next_key<L: Layers>(r: usize, before: u64, last: u64) -> u64
     requires { r < 9 }
     ensures { result ≡ be_number (c r ⊕ θ (γ (be_bytes 8 last)) ⊕ be_bytes 8 before) }
@@ -45,9 +46,9 @@ fn inverse_key<L: Layers>(keys: &[u64; 9], r: usize) -> u64
     ensures { result ≡ be_number (inverse (rows_of keys.now) r) }
 {
     match r {
-        0 => keys[LAST],
-        LAST => keys[0],
-        _ => L::theta(keys[LAST - r]),
+        0 => keys[LAST_ROUND],
+        LAST_ROUND => keys[0],
+        _ => L::theta(keys[LAST_ROUND - r]),
     }
 }
 

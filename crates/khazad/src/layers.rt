@@ -12,7 +12,10 @@ pub trait Layers {
     fn theta(block: u64) -> u64
         ensures { result ≡ on_blocks θ block };
 
-    // γ, then θ.
+    // γ, then θ. A way that can do both at once says how.
     fn theta_gamma(block: u64) -> u64
-        ensures { result ≡ on_blocks (λ a. θ (γ a)) block };
+        ensures { result ≡ on_blocks (λ a. θ (γ a)) block }
+    {
+        Self::theta(Self::gamma(block))
+    }
 }

@@ -2,17 +2,17 @@
 // out from its mini-boxes and θ by products in the field.
 #![tactic(auto)]
 
+mod by_field;
 mod engine;
 mod field;
 mod keys;
-mod layer;
 mod layers;
 mod sbox;
 #[cfg(test)]
 mod tests;
 
+pub use by_field::ByField;
 pub use engine::Khazad;
-pub use layer::ByField;
 pub use layers::Layers;
 
 // Khazad by field arithmetic.

@@ -1,8 +1,8 @@
 // The worked examples of the published cipher's parts.
 
+use crate::by_field::{ByField, theta};
 use crate::field::product;
 use crate::keys::round_keys;
-use crate::layer::{ByField, theta};
 use crate::sbox::substitute;
 use cipher::bytes_of;
 

@@ -1,7 +1,7 @@
 -- The lookup tables of Khazad by their rule.
 --   table_entry     what table k holds at x: the product of S(x) with row k of H, as a block
 --   tables_by_rule  the eight tables, each with its 256 entries
---   added           what a function gives of the bytes of a row and their places, added up; the places count from k
+--   added           what a function gives of the bytes of a row and their places, added up by ⊕; the places count from k
 -- Assumes nothing.
 use Rattle.std.specs.Prelude.{ℕ, ◌+◌, List, [], ◌∷◌, map, bit_xor}
 use Rattle.std.specs.List.{range_with_len}

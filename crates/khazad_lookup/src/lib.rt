@@ -4,11 +4,11 @@
 // nothing here says that the time of a look-up does not depend on the byte that is looked up.
 #![tactic(auto)]
 
-mod layer;
+mod by_tables;
 mod tables;
 
+pub use by_tables::ByTables;
 use khazad::Khazad;
-pub use layer::ByTables;
 
 // Khazad by lookup tables.
 pub type LookupKhazad = Khazad<ByTables>;

@@ -18,7 +18,8 @@ pub(crate) fn in_place<F: FnMut(u64) -> u64>(buffer: &mut [u8], mut step: F) -> 
     if buffer.len() % 8 != 0 {
         return Err(Refusal::NotWholeBlocks);
     }
-    // By places: after `chunks_exact_mut` a proof knows the buffer's length alone.
+    // By places: after `chunks_exact_mut` a proof knows the buffer's length alone, and a cursor by `split_first_chunk_mut` or by
+    // `first_chunk_mut` lost what was written, too.
     for at in (0..buffer.len()).step_by(8) {
         let block = block_at(buffer, at);
         put_block(buffer, at, step(block));

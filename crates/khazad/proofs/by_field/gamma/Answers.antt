@@ -2,7 +2,7 @@ use Rattle.std.proofs.Common.{rules}
 use Rattle.cipher.proofs.Rows.{of_array}
 use Rattle.khazad.specs.Khazad.{S, γ}
 use Rattle.khazad.proofs.Made.{mapped_by_calls}
-use Rattle.khazad.proofs.layer.gamma.Goals as goal
+use Rattle.khazad.proofs.by_field.gamma.Goals as goal
 
 pub returns : goal.returns
 unfolding γ

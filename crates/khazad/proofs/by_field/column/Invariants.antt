@@ -2,7 +2,7 @@ use Rattle.std.proofs.Common.{◌≡◌, ◌*◌, get_or, length}
 use lib.Bits.{bit_xor}
 use Rattle.khazad.specs.Khazad.{θ}
 use Rattle.khazad.proofs.Columns.{dot_flat}
-use Rattle.khazad.proofs.layer.column.Given as goal
+use Rattle.khazad.proofs.by_field.column.Given as goal
 
 -- the sum so far and what the bytes that are left will add
 abbrev pub invariant-loop-row : goal.invariant-loop-row

@@ -1,4 +1,4 @@
-// The layers of a round by products in the field, on eight bytes by value.
+// The layers of a round by products in the field. Each takes eight bytes by value; at the end they are on blocks.
 
 ghost use Rattle.std.specs.Prelude.{◌≡◌, ◌<◌, slice_index};
 ghost use Rattle.khazad.specs.Khazad.{γ, θ};
@@ -53,9 +53,5 @@ impl Layers for ByField {
 
     fn theta(block: u64) -> u64 {
         block_of(theta(bytes_of(block)))
-    }
-
-    fn theta_gamma(block: u64) -> u64 {
-        block_of(theta(gamma(bytes_of(block))))
     }
 }

@@ -5,7 +5,7 @@ use Rattle.std.specs.List.{flat_map}
 use Rattle.cipher.proofs.Rows.{of_array}
 use Rattle.khazad.specs.Khazad.{H}
 use Rattle.khazad.proofs.Columns.{dot_flat, θ-flat, one_byte_more, no_byte_more}
-use Rattle.khazad.proofs.layer.column.Goals as goal
+use Rattle.khazad.proofs.by_field.column.Goals as goal
 
 pub loop-row-init : goal.loop-row-init
 loop-row-init c =

@@ -4,7 +4,7 @@ use Rattle.cipher.proofs.Rows.{of_array}
 use Rattle.khazad.specs.Khazad.{θ}
 use Rattle.khazad.specs.Layers.{θ-bytes}
 use Rattle.khazad.proofs.Made.{made_by_calls}
-use Rattle.khazad.proofs.layer.theta.Goals as goal
+use Rattle.khazad.proofs.by_field.theta.Goals as goal
 
 pub returns : goal.returns
 returns c =

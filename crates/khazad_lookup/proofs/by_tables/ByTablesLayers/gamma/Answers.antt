@@ -2,7 +2,7 @@ use Rattle.std.proofs.Common.{rules}
 use Rattle.cipher.proofs.Numbers.{block_bytes}
 use Rattle.cipher.specs.Block.{be_bytes}
 use Rattle.khazad_lookup.proofs.Sums.{boxes_add_up}
-use Rattle.khazad_lookup.proofs.layer.ByTablesLayers.gamma.Goals as goal
+use Rattle.khazad_lookup.proofs.by_tables.ByTablesLayers.gamma.Goals as goal
 
 pub returns : goal.returns
 returns c = let whole = boxes_add_up (be_bytes 8 c.args.block) (block_bytes c.args.block) in search rules

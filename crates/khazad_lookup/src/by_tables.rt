@@ -9,7 +9,8 @@ use crate::tables::eight_tables;
 use cipher::bytes_of;
 use khazad::Layers;
 
-// The entry of table k at x.
+// The entry of table k at x. Places are numbered by `usize`, as `enumerate` does: a type for a number below eight would be made
+// of one at each byte.
 fn entry(k: usize, x: u8) -> u64
     requires { k < 8 }
     ensures { result ≡ table_entry k x }
@@ -25,10 +26,10 @@ fn boxed_at(k: usize, x: u8) -> u64
     entry(k, x) & (0xFF << (56 - 8 * k))
 }
 
-// What a function gives of each byte of a block and its place, added up.
+// What a function gives of each byte of a block and its place, added up by ⊕.
 fn added_up<F: Fn(usize, u8) -> u64>(block: u64, part: F) -> u64
     requires { (k x : ℕ) → k < 8 → x < 256 → F.pre part k x }
-    ensures { (f : ℕ → ℕ → ℕ) → ((k x r : ℕ) → F.post part k x r → r ≡ f k x) → result ≡ added f 0 (be_bytes 8 block) }
+    ensures { (f : ℕ → ℕ → ℕ) → ((k x r : ℕ) → k < 8 → x < 256 → F.post part k x r → r ≡ f k x) → result ≡ added f 0 (be_bytes 8 block) }
 {
     let a = bytes_of(block);
     let mut sum = 0;
@@ -42,7 +43,7 @@ fn added_up<F: Fn(usize, u8) -> u64>(block: u64, part: F) -> u64
 pub struct ByTables;
 
 impl Layers for ByTables {
-    // γ has the part of table k that is S, for each byte k.
+    // S of each byte at its place.
     fn gamma(block: u64) -> u64 {
         added_up(block, boxed_at)
     }
@@ -52,7 +53,7 @@ impl Layers for ByTables {
         Self::theta_gamma(Self::gamma(block))
     }
 
-    // Table k at byte k, for each k.
+    // The entry of each byte, in the table of its place.
     fn theta_gamma(block: u64) -> u64 {
         added_up(block, entry)
     }
