@@ -108,13 +108,12 @@ impl Refusal {
 }
 
 // A refusal is printed as its number and its cause in words.
+// It is written by hand: a derive of `thiserror` prints the same, and a proof would know nothing of the text.
 impl fmt::Display for Refusal {
     ghost output = { λ refusal. Some (text_of refusal) };
 
     fn fmt<W: fmt::Write>(&self, f: &mut fmt::Formatter<W>) -> fmt::Result {
-        let number = self.number();
-        let reason = self.reason();
-        write!(f, "refusal {number}: {reason}")
+        write!(f, "refusal {}: {}", self.number(), self.reason())
     }
 }
 
