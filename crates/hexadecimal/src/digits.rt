@@ -1,7 +1,7 @@
 // Bytes as hexadecimal digits: reading them from text and writing them as text.
-ghost use Rattle.std.specs.Prelude.{◌≡◌, ◌<◌, IfOk, Some, vec_items, string_bytes};
+ghost use Rattle.std.specs.Prelude.{◌≡◌, IfOk, Some, vec_items, string_bytes};
 ghost use Rattle.std.specs.Option.{option_map};
-ghost use Rattle.hexadecimal.specs.Hex.{digit, pair, unhex, mark, hex, word_bytes, shown_bytes};
+ghost use Rattle.hexadecimal.specs.Hex.{digit, pair, unhex, hex, word_bytes, shown_bytes};
 
 use std::alloc::{AllocError, Global};
 use std::fmt;
@@ -15,6 +15,7 @@ pub fn digit_value(c: u8) -> Option<u8>
 }
 
 // The bytes that a text writes, two digits a byte; nothing where the text is not all pairs of digits.
+// It is not the kit's crate `hex`: the error of its `decode` tells which character is no digit and where, while here a text is bytes or none.
 #[tactic(auto, unfolding(crate::specs::Hex::unhex))]
 pub fn decode(heap: Global, text: &[u8]) -> Result<Option<Vec<u8>>, AllocError>
     ensures { IfOk result (λ o. option_map vec_items o ≡ unhex text.now) }
@@ -28,11 +29,7 @@ pub fn decode(heap: Global, text: &[u8]) -> Result<Option<Vec<u8>>, AllocError>
         bytes.push(byte)?;
         rest = after;
     }
-    if rest.is_empty() {
-        Ok(Some(bytes))
-    } else {
-        Ok(None)
-    }
+    Ok(rest.is_empty().then_some(bytes))
 }
 
 // Bytes that are printed as digits, two a byte, in lower case.
@@ -66,8 +63,7 @@ impl fmt::Display for Word<'_> {
         if self.bytes.is_empty() {
             return f.write_str("-");
         }
-        let digits = Digits { bytes: self.bytes };
-        write!(f, "{digits}")
+        write!(f, "{}", Digits { bytes: self.bytes })
     }
 }
 
