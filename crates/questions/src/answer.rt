@@ -3,7 +3,7 @@
 ghost use Rattle.std.specs.Prelude.{◌≡◌, IfOk, Some};
 ghost use Rattle.std.specs.Option.{option_map};
 ghost use Rattle.modes.specs.InPlace.{answered, left_by};
-ghost use Rattle.questions.specs.Answer.{engine_of, unchained_of, chained_of, operation_of, exactly, of_length, contents, question_of, mode_of, said, said_by, answer_to};
+ghost use Rattle.questions.specs.Answer.{engine_of, unchained_of, chained_of, operation_of, exactly, contents, question_of, mode_of, said, said_by, answer_to};
 ghost use Rattle.questions.specs.Words.{parts};
 
 use crate::question::{Engine, Mode, Operation, Question};
@@ -72,6 +72,7 @@ pub fn exact_bytes<const N: usize>(heap: Global, word: &[u8]) -> Result<Option<[
 }
 
 // The question that five words ask, if they ask one.
+// A `let .. else` stands at each word, and not an error enum with `?`: an error of its own for words that ask nothing would be turned back into `None` at the end.
 #[tactic(auto, unfolding(crate::specs::Answer::question_of))]
 pub fn read_question(heap: Global, words: &Words<'_>) -> Result<Option<Question>, AllocError>
     ensures { IfOk result (λ o. option_map contents o ≡ question_of (parts words.now)) }

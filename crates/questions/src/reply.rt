@@ -22,14 +22,8 @@ impl fmt::Display for Reply {
 
     fn fmt<W: fmt::Write>(&self, f: &mut fmt::Formatter<W>) -> fmt::Result {
         match self {
-            Reply::Bytes(bytes) => {
-                let word = Word { bytes };
-                write!(f, "{word}")
-            }
-            Reply::Refused(refusal) => {
-                let number = refusal.number();
-                write!(f, "!{number}")
-            }
+            Reply::Bytes(bytes) => write!(f, "{}", Word { bytes }),
+            Reply::Refused(refusal) => write!(f, "!{}", refusal.number()),
             Reply::NotUnderstood => f.write_str("?"),
         }
     }
@@ -76,12 +70,10 @@ impl fmt::Display for Tally {
     ghost output = { λ tally. Some (tally_line tally) };
 
     fn fmt<W: fmt::Write>(&self, f: &mut fmt::Formatter<W>) -> fmt::Result {
-        let answered = self.answered;
-        let refused = self.refused;
-        let not_understood = self.not_understood;
         write!(
             f,
-            "{answered} answered, {refused} refused, {not_understood} not understood"
+            "{} answered, {} refused, {} not understood",
+            self.answered, self.refused, self.not_understood
         )
     }
 }

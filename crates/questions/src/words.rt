@@ -24,9 +24,6 @@ pub fn five_words(line: &[u8]) -> Option<Words<'_>>
     let (operation, rest) = cut(rest)?;
     let (key, rest) = cut(rest)?;
     let (start, text) = cut(rest)?;
-    if let Some(_) = cut(text) {
-        return None;
-    }
     let words = Words {
         cipher,
         operation,
@@ -34,7 +31,11 @@ pub fn five_words(line: &[u8]) -> Option<Words<'_>>
         start,
         text,
     };
-    words.are_filled().then_some(words)
+    match cut(text) {
+        // A sixth word.
+        Some(_) => None,
+        None => words.are_filled().then_some(words),
+    }
 }
 
 impl Words<'_> {
