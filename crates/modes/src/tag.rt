@@ -64,6 +64,7 @@ fn double(block: u64) -> u64
 const PADDING: u8 = 0x80;
 
 // Fewer than eight bytes as a block: behind them the bit 1, and then zeros.
+// By the place behind the bytes: a chain of bytes, padding and zeros would be put into the array by places again.
 fn padded_block(bytes: &[u8]) -> u64
     requires { length bytes.now < 8 }
     ensures { result ≡ be_number (padded bytes.now) }

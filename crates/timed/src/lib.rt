@@ -2,7 +2,7 @@
 //
 // A key crosses as its two halves, each as a block. The call prepares it, works on the text in place and says whether it
 // did; a text that is not whole blocks is left as it was. One function for each mode, two blocks for a key and a `bool` for
-// an answer: that is what the C interface can carry.
+// an answer: so a program in C or Rust is linked against them, by these names, and neither an array nor a `Result` crosses.
 #![tactic(auto)]
 
 ghost use Rattle.std.specs.Prelude.{◌≡◌, ◌++◌};
