@@ -26,6 +26,7 @@ fn next_key<L: Layers>(r: usize, before: u64, last: u64) -> u64
 pub fn round_keys<L: Layers>(key: [u8; 16]) -> [u64; 9]
     ensures { result ≡ nine_blocks (K key) }
 {
+    // The halves by their places, as `block_at` reads a block; they are needed nowhere else.
     let mut before = block_at(&key, 0);
     let mut last = block_at(&key, 8);
     array::from_fn(
