@@ -41,12 +41,16 @@ P-nibble = stay_below P 16 16 tt
 Q-nibble : (n : ℕ) → n < 16 → Q n < 16
 Q-nibble = stay_below Q 16 16 tt
 
--- nibbles stay nibbles in the mini-boxes, either way round
+-- two nibbles stay nibbles in two boxes of which each keeps them, and so in the mini-boxes, either way round
+boxed-nibbles : (f g : ℕ → ℕ) → ((n : ℕ) → n < 16 → f n < 16) → ((n : ℕ) → n < 16 → g n < 16)
+    → (n r : ℕ × ℕ) → n.0 < 16 → n.1 < 16 → r ≡ boxed f g n → (r.0 < 16) × (r.1 < 16)
+boxed-nibbles f g hf hg n r h l e = (subst (λ m. m < 16) (sym (ap (λ p. p.0) e)) (hf n.0 h), subst (λ m. m < 16) (sym (ap (λ p. p.1) e)) (hg n.1 l))
+
 pub PQ-nibbles : (n r : ℕ × ℕ) → n.0 < 16 → n.1 < 16 → r ≡ boxed P Q n → (r.0 < 16) × (r.1 < 16)
-PQ-nibbles n r h l e = (subst (λ m. m < 16) (sym (ap (λ p. p.0) e)) (P-nibble n.0 h), subst (λ m. m < 16) (sym (ap (λ p. p.1) e)) (Q-nibble n.1 l))
+PQ-nibbles = boxed-nibbles P Q P-nibble Q-nibble
 
 pub QP-nibbles : (n r : ℕ × ℕ) → n.0 < 16 → n.1 < 16 → r ≡ boxed Q P n → (r.0 < 16) × (r.1 < 16)
-QP-nibbles n r h l e = (subst (λ m. m < 16) (sym (ap (λ p. p.0) e)) (Q-nibble n.0 h), subst (λ m. m < 16) (sym (ap (λ p. p.1) e)) (P-nibble n.1 l))
+QP-nibbles = boxed-nibbles Q P Q-nibble P-nibble
 
 pub S-by_pairs : (x : ℕ) (a n b m d : ℕ × ℕ) → m.0 < 16 → m.1 < 16 → a ≡ boxed P Q (x / 16, bit_and x 15) → n ≡ exchanged a → b ≡ boxed Q P n → m ≡ exchanged b → d ≡ boxed P Q m
     → bit_or (d.0 * 16 % 256) d.1 ≡ S x
