@@ -1,8 +1,10 @@
 -- Laws of hexadecimal digits: reading pair by pair, writing byte by byte, and that reading undoes writing.
-use Rattle.std.proofs.Common.{◌≡◌, ℕ, ◌+◌, ◌-◌, ◌*◌, ◌/◌, ◌%◌, ◌^◌, ◌<◌, ◌≤◌, false, eqb, List, [], ◌∷◌, ◌++◌, length, get_or, take, drop, Some, None, Option, sym, refl, ap, ◌∙◌, append_assoc, arith, w8, Fits}
+use Rattle.std.proofs.Common.{◌≡◌, ℕ, zero, suc, ◌+◌, ◌-◌, ◌*◌, ◌/◌, ◌%◌, ◌^◌, ◌<◌, ◌≤◌, false, eqb, List, [], ◌∷◌, ◌++◌, length, length-set, get_or, set, take, drop, Some, None, Option, sym, refl, ap, ap₂, ◌∙◌, append_assoc, arith, w8, Fits}
+use Rattle.std.proofs.lemmas.Grind.{take-set_at}
 use mir.Facts.{Fits-lt-pow}
 use Rattle.std.proofs.lemmas.List.Elements.{All-from_get_or, All-head, All-tail}
 use Rattle.std.specs.List.{All}
+use Rattle.std.specs.Str.{IsAscii}
 use Rattle.std.proofs.lemmas.Fmt.{hex_byte}
 use Rattle.std.proofs.lemmas.List.{take_rest, take_more, take_all}
 use Rattle.std.proofs.lemmas.Bool.{cond-false, and_right}
@@ -47,8 +49,37 @@ hex-more bytes i h small =
     ap (λ digits. hex (take i bytes) ++ digits) (hex_byte false (get_or bytes i 0) small) ∙
     sym (hex-append (take i bytes) (get_or bytes i 0 ∷ [])) ∙ ap hex (sym (take_more bytes i 0 h))
 
+-- two marks more at the front of a text are one byte more
+pub two_marks_more : (bytes text : List ℕ) (i high low : ℕ) → i < length bytes → 2 * i + 1 < length text → take (2 * i) text ≡ hex (take i bytes)
+    → high ≡ mark (get_or bytes i 0 / 16) → low ≡ mark (get_or bytes i 0 % 16) → take (2 * (i + 1)) (set (set text (2 * i) high) (2 * i + 1) low) ≡ hex (take (i + 1) bytes)
+unfolding hex
+two_marks_more bytes text i high low h room so_far up down =
+    let once = set text (2 * i) high in
+    let same : length once ≡ length text = length-set text (2 * i) high in
+    take-set_at once (2 * i + 1) (2 * (i + 1)) low (omega arith) (omega arith)
+    ∙ ap (λ front. front ++ low ∷ []) (take-set_at text (2 * i) (2 * i + 1) high (omega arith) (omega arith))
+    ∙ append_assoc (take (2 * i) text) (high ∷ []) (low ∷ [])
+    ∙ ap₂ ◌++◌ so_far (ap₂ (λ x y. x ∷ y ∷ []) up down)
+    ∙ sym (hex-append (take i bytes) (get_or bytes i 0 ∷ [])) ∙ ap hex (sym (take_more bytes i 0 h))
+
+-- a piece of the bytes and those behind it
+pub hex-pieces : (bytes piece rest : List ℕ) → bytes ≡ piece ++ rest → hex piece ++ hex rest ≡ hex bytes
+hex-pieces bytes piece rest e = sym (hex-append piece rest) ∙ ap hex (sym e)
+
 pub hex-all : (bytes : List ℕ) (i : ℕ) → length bytes ≤ i → hex (take i bytes) ≡ hex bytes
 hex-all bytes i h = ap hex (take_all i bytes h)
+
+-- ---- digits are ASCII
+
+mark-small : (value : ℕ) → value < 16 → mark value < 128
+mark-small value h = grind (arith, nat_tests)
+
+pub hex-ascii : (bytes : List ℕ) → All (λ byte. byte < 256) bytes → IsAscii (hex bytes)
+unfolding hex
+hex-ascii [] h i = omega arith
+hex-ascii (byte ∷ rest) h zero = mark-small (byte / 16) (omega (arith, All-head (λ b. b < 256) byte rest h))
+hex-ascii (byte ∷ rest) h (suc zero) = mark-small (byte % 16) (omega arith)
+hex-ascii (byte ∷ rest) h (suc (suc i)) = hex-ascii rest (All-tail (λ b. b < 256) byte rest h) i
 
 -- ---- reading what was written
 

@@ -1,10 +1,11 @@
 // Bytes as hexadecimal digits: reading them from text and writing them as text.
-ghost use Rattle.std.specs.Prelude.{◌≡◌, IfOk, Some, vec_items, string_bytes};
+ghost use Rattle.std.specs.Prelude.{◌≡◌, ◌*◌, ◌<◌, ◌≤◌, IfOk, Some, length, take, vec_items, string_bytes};
 ghost use Rattle.std.specs.Option.{option_map};
-ghost use Rattle.hexadecimal.specs.Hex.{digit, pair, unhex, hex, word_bytes, shown_bytes};
+ghost use Rattle.std.specs.Str.{IsAscii};
+ghost use Rattle.hexadecimal.specs.Hex.{digit, pair, unhex, mark, hex, word_bytes, shown_bytes};
 
 use std::alloc::{AllocError, Global};
-use std::fmt;
+use std::{fmt, str};
 
 // The value of a digit of either case; nothing for any other byte.
 pub fn digit_value(c: u8) -> Option<u8>
@@ -32,6 +33,33 @@ pub fn decode(heap: Global, text: &[u8]) -> Result<Option<Vec<u8>>, AllocError>
     Ok(rest.is_empty().then_some(bytes))
 }
 
+// The digit of a value below 16, in lower case.
+fn digit_mark(value: u8) -> u8
+    requires { value < 16 }
+    ensures { result ≡ mark value }
+{
+    if value < 10 {
+        b'0' + value
+    } else {
+        b'a' + (value - 10)
+    }
+}
+
+// How many bytes are printed at a time: their digits go out in one write, and not in one for each byte.
+const PIECE: usize = 32;
+
+// Writes the digits of a piece at the front of a text that has room for the digits of a whole one.
+fn put_digits(piece: &[u8], text: &mut [u8; 64])
+    requires { length piece.now ≤ 32 }
+    ensures digits { take (2 * length piece.now) text.new ≡ hex piece.now }
+    ensures ascii { IsAscii (hex piece.now) }
+{
+    for (i, byte) in piece.iter().enumerate() {
+        text[2 * i] = digit_mark(byte / 16);
+        text[2 * i + 1] = digit_mark(byte % 16);
+    }
+}
+
 // Bytes that are printed as digits, two a byte, in lower case.
 #[derive(Clone, Copy)]
 struct Digits<'a> {
@@ -42,8 +70,13 @@ impl fmt::Display for Digits<'_> {
     ghost output = { λ digits. Some (hex digits.bytes.now) };
 
     fn fmt<W: fmt::Write>(&self, f: &mut fmt::Formatter<W>) -> fmt::Result {
-        for &byte in self.bytes {
-            write!(f, "{byte:02x}")?;
+        let mut text = [0; 64];
+        for piece in self.bytes.chunks(PIECE) {
+            put_digits(piece, &mut text);
+            let Ok(digits) = str::from_utf8(&text[..2 * piece.len()]) else {
+                unreachable!();
+            };
+            f.write_str(digits)?;
         }
         Ok(())
     }
