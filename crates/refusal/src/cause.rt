@@ -1,14 +1,16 @@
 // Why a call says no.
 
-ghost use Rattle.std.specs.Prelude.{◌≡◌, Some};
+ghost use Rattle.std.specs.Prelude.{◌≡◌, ◌==◌, Decides, Some};
 ghost use Rattle.refusal.specs.Numbers.{number_of};
 ghost use Rattle.refusal.specs.Texts.{reason_of, text_of};
+ghost use Rattle.std.specs.Cmp.Rules.{comparing};
+ghost use Rattle.std.proofs.Common.{rules};
 
 use std::error::Error;
 use std::fmt;
 
-// A cause for which a call says no. Two refusals are equal where they are the same cause, and no two causes have one number.
-#[derive(Clone, Copy, Debug, PartialEq, Eq)]
+// A cause for which a call says no.
+#[derive(Clone, Copy, Debug)]
 pub enum Refusal {
     // Because of what came in.
 
@@ -105,6 +107,25 @@ impl Refusal {
             Refusal::NumberTooOld => "the number is 64 or more below the highest taken",
         }
     }
+}
+
+// Two refusals are equal where they are the same cause: no two causes have one number.
+// It is written by hand: a derive takes no clause, and `==` promises both in its own contract.
+impl PartialEq for Refusal {
+    ghost eq = { λ x y. number_of x == number_of y };
+
+    ghost laws = { Prim.search (comparing, rules) };
+
+    fn eq(&self, other: &Refusal) -> bool
+        ensures value { result ≡ (number_of self.now == number_of other.now) }
+        ensures same_cause { Decides result (self.now ≡ other.now) }
+    {
+        self.number() == other.number()
+    }
+}
+
+impl Eq for Refusal {
+    ghost laws = { Prim.search (comparing, rules) };
 }
 
 // A refusal is printed as its number and its cause in words.
