@@ -3,14 +3,22 @@
 
 use questions::answer::answer;
 use questions::reply::Tally;
+use questions::words::without_newline;
 use std::io::{BufRead, BufReader};
 
 fn reply_to_all(rt: &HostRuntime) -> anyhow::Result<()> {
     let heap = rt.alloc();
-    let input = BufReader::new(heap, rt.stdin())?;
+    let mut input = BufReader::new(heap, rt.stdin())?;
+    let mut line = Vec::new(heap);
     let mut tally = Tally::new();
-    for line in input.split(heap, b'\n') {
-        let reply = answer(heap, line?.as_slice())?;
+    // Not over `split`, which would cut the newlines off by itself: what a line is without its newline is what
+    // `without_newline` promises.
+    for _ in 0..u64::MAX {
+        line.clear();
+        if input.read_until(b'\n', &mut line)? == 0 {
+            break;
+        }
+        let reply = answer(heap, without_newline(line.as_slice()))?;
         tally.count(&reply);
         println!(rt; "{reply}")?;
     }
