@@ -29,11 +29,11 @@ padded-bytes bytes each few = (
 )
 
 module _ (CIPH : ℕ → ℕ) where
-  whole_last : (bytes : List ℕ) → length bytes ≡ 8 → last_block CIPH bytes ≡ bit_xor (K1 CIPH) (be_number bytes)
+  pub whole_last : (bytes : List ℕ) → length bytes ≡ 8 → last_block CIPH bytes ≡ bit_xor (K1 CIPH) (be_number bytes)
   unfolding last_block
   whole_last bytes whole = search (rules, eq-eqb)
 
-  short_last : (bytes : List ℕ) → (length bytes ≡ 8 → ⊥) → last_block CIPH bytes ≡ bit_xor (K2 CIPH) (be_number (padded bytes))
+  pub short_last : (bytes : List ℕ) → (length bytes ≡ 8 → ⊥) → last_block CIPH bytes ≡ bit_xor (K2 CIPH) (be_number (padded bytes))
   unfolding last_block
   short_last bytes short = search (rules, ne_eqb)
 
