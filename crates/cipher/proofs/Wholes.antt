@@ -1,8 +1,8 @@
 -- Rows of bytes as rows of blocks, and back.
-use Rattle.std.proofs.Common.{◌≡◌, ℕ, zero, suc, ◌+◌, ◌*◌, ◌/◌, ◌%◌, ◌<◌, ◌≤◌, List, [], ◌∷◌, ◌++◌, length, take, drop, sym, refl, ap, ◌∙◌, ap₂, add-one, arith}
+use Rattle.std.proofs.Common.{◌≡◌, ℕ, zero, suc, ◌+◌, ◌-◌, ◌*◌, ◌/◌, ◌%◌, ◌<◌, ◌≤◌, List, [], ◌∷◌, ◌++◌, length, take, drop, sym, refl, ap, ◌∙◌, ap₂, add-one, arith}
 use Rattle.std.proofs.lemmas.List.Elements.{All-nil, All-cons, All-head, All-tail, All-append, All-take, All-drop}
 use Rattle.std.proofs.lemmas.List.{append_assoc, append-nil, length-append, length-drop, length-take-le, take_at, drop_at, drop-drop, drop_all, take-append-drop}
-use Rattle.std.specs.List.{All}
+use Rattle.std.specs.List.{between, All}
 use Rattle.cipher.specs.Block.{Byte, Bytes, Block, be_bytes, be_number, first_blocks, as_blocks, as_bytes}
 use Rattle.cipher.proofs.Numbers.{block_bytes, block_of_bytes, bytes_of_block, number_block}
 
@@ -117,3 +117,11 @@ unfolding as_blocks first_blocks
 as_blocks-none xs few =
     let n : length xs / 8 ≡ 0 = omega arith in
     ap (λ k. first_blocks k xs) n
+
+-- the block that a walk over blocks is at
+pub as_blocks-at : (i : ℕ) (xs : List ℕ) → 8 * i + 8 ≤ length xs → as_blocks (drop (8 * i) xs) ≡ be_number (between (8 * i) (8 * i + 8) xs) ∷ as_blocks (drop (8 * (i + 1)) xs)
+as_blocks-at i xs room =
+    let eight : 8 ≡ 8 * i + 8 - 8 * i = omega arith in
+    let on : drop 8 (drop (8 * i) xs) ≡ drop (8 * (i + 1)) xs = drop-drop 8 (8 * i) xs ∙ ap (λ k. drop k xs) (omega arith) in
+    as_blocks-first (drop (8 * i) xs) (omega (arith, length-drop (8 * i) xs))
+    ∙ ap₂ (λ k rest. be_number (take k (drop (8 * i) xs)) ∷ as_blocks rest) eight on

@@ -1,5 +1,5 @@
 -- Laws of CMAC: how a tag is made step by step, how it splits at a header, and that one block tells two messages apart.
-use Rattle.std.proofs.Common.{◌≡◌, ℕ, zero, suc, ◌+◌, ◌-◌, ◌*◌, ◌%◌, ◌^◌, ◌<◌, ◌≤◌, leb, List, [], ◌∷◌, ◌++◌, length, take, drop, replicate, sym, ap, ◌∙◌, subst, ap₂, ⊎_elim, arith, lit<, rules}
+use Rattle.std.proofs.Common.{◌≡◌, ℕ, zero, suc, ◌+◌, ◌-◌, ◌*◌, ◌%◌, ◌^◌, ◌<◌, ◌≤◌, leb, List, [], ◌∷◌, ◌++◌, length, take, drop, replicate, sym, refl, ap, ◌∙◌, subst, ap₂, ⊎_elim, arith, lit<, rules}
 use lib.Bits.{bit_xor, xor_zero_l, xor_lt}
 use Rattle.std.proofs.lemmas.Nat.{mod_below}
 use Rattle.std.proofs.lemmas.List.Elements.{All-cons, All-head, All-tail, All-append, All-drop}
@@ -29,11 +29,11 @@ padded-bytes bytes each few = (
 )
 
 module _ (CIPH : ℕ → ℕ) where
-  whole_last : (bytes : List ℕ) → length bytes ≡ 8 → last_block CIPH bytes ≡ bit_xor (K1 CIPH) (be_number bytes)
+  pub whole_last : (bytes : List ℕ) → length bytes ≡ 8 → last_block CIPH bytes ≡ bit_xor (K1 CIPH) (be_number bytes)
   unfolding last_block
   whole_last bytes whole = search (rules, eq-eqb)
 
-  short_last : (bytes : List ℕ) → (length bytes ≡ 8 → ⊥) → last_block CIPH bytes ≡ bit_xor (K2 CIPH) (be_number (padded bytes))
+  pub short_last : (bytes : List ℕ) → (length bytes ≡ 8 → ⊥) → last_block CIPH bytes ≡ bit_xor (K2 CIPH) (be_number (padded bytes))
   unfolding last_block
   short_last bytes short = search (rules, ne_eqb)
 
@@ -59,6 +59,12 @@ module _ (CIPH : ℕ → ℕ) where
 
   -- ---- the chain, block by block
 
+  -- one block more at the end of the chain
+  pub chained-push : (bs : List ℕ) (b C : ℕ) → chained CIPH C (bs ++ b ∷ []) ≡ CIPH (bit_xor (chained CIPH C bs) b)
+  unfolding chained
+  chained-push [] b C = refl
+  chained-push (M ∷ Ms) b C = chained-push Ms b (CIPH (bit_xor C M))
+
   -- a message of eight bytes or fewer is its last block
   pub short_tag : (C : ℕ) (message : List ℕ) → length message ≤ 8 → tag_from CIPH C message ≡ CIPH (bit_xor C (last_block CIPH message))
   unfolding tag_from chained first_blocks
@@ -78,13 +84,16 @@ module _ (CIPH : ℕ → ℕ) where
       ap₂ (λ k last. CIPH (bit_xor (chained CIPH C (first_blocks k message)) (last_block CIPH last))) count rest
 
   -- the tag of a header block and a body is that of the body, with the header in the chain already
+  pub header_first : (C header : ℕ) (body : List ℕ) → Block header → 0 < length body → tag_from CIPH C (be_bytes 8 header ++ body) ≡ tag_from CIPH (CIPH (bit_xor C header)) body
+  header_first C header body h some =
+      let eight = (block_bytes header).0 in
+      long_tag C (be_bytes 8 header ++ body) (omega (arith, length-append (be_bytes 8 header) body, eight))
+      ∙ ap₂ (λ first rest. tag_from CIPH (CIPH (bit_xor C (be_number first))) rest) (take_at (be_bytes 8 header) body 8 eight) (drop_at (be_bytes 8 header) body 8 eight)
+      ∙ ap (λ block. tag_from CIPH (CIPH (bit_xor C block)) body) (block_of_bytes header h)
+
   pub tag_of_header_and_body : (header : ℕ) (body : List ℕ) → Block header → 0 < length body → CMAC CIPH (be_bytes 8 header ++ body) ≡ tag_from CIPH (CIPH header) body
   unfolding CMAC
-  tag_of_header_and_body header body h some =
-      let eight = (block_bytes header).0 in
-      long_tag 0 (be_bytes 8 header ++ body) (omega (arith, length-append (be_bytes 8 header) body, eight))
-      ∙ ap₂ (λ first rest. tag_from CIPH (CIPH (bit_xor 0 (be_number first))) rest) (take_at (be_bytes 8 header) body 8 eight) (drop_at (be_bytes 8 header) body 8 eight)
-      ∙ ap (λ block. tag_from CIPH (CIPH block) body) (xor_zero_l (be_number (be_bytes 8 header)) ∙ block_of_bytes header h)
+  tag_of_header_and_body header body h some = header_first 0 header body h some ∙ ap (λ C. tag_from CIPH (CIPH C) body) (xor_zero_l header)
 
 -- ---- one block tells
 

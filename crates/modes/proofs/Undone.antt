@@ -1,5 +1,5 @@
 -- Deciphering undoes enciphering, and the other way round: ECB, and CBC from every starting block.
-use Rattle.std.proofs.Common.{◌≡◌, ℕ, suc, ◌%◌, List, [], ◌∷◌, length, sym, refl, ap, ◌∙◌, ap₂, subst, ⊎_elim, arith, lit<}
+use Rattle.std.proofs.Common.{◌≡◌, ℕ, ◌%◌, List, [], ◌∷◌, length, sym, refl, ap, ◌∙◌, ap₂, subst, ⊎_elim, arith, lit<}
 use lib.Bits.{bit_xor, xor_lt}
 use Rattle.std.proofs.lemmas.Bool.{cond-true, cond-false, cases_Bool, eq-eqb, eqb-true}
 use Rattle.std.specs.List.{All}
@@ -11,7 +11,7 @@ use Rattle.cipher.proofs.Wholes.{length-as_bytes, as_blocks-blocks, as_blocks-as
 use Rattle.modes.specs.InPlace.{left_by}
 use Rattle.modes.specs.Ecb.{ecb}
 use Rattle.modes.specs.Cbc.{cbc_enciphered, cbc_deciphered}
-use Rattle.modes.proofs.Over.{GoesOver, ecb-goes_over, enciphering_goes_over, deciphering_goes_over}
+use Rattle.modes.proofs.Over.{GoesOver, as_many_blocks, ecb-goes_over, enciphering_goes_over, deciphering_goes_over}
 
 -- ---- of rows of blocks
 
@@ -32,10 +32,6 @@ module _ {there back : ℕ → List ℕ → List ℕ} {makes next makes_back nex
       let l = laws state b hs (All-head Block b bs each) in
       subst (All Block) (sym (over.more state b bs)) (All-cons Block (makes state b) (there (next state b) bs) l.0 (all_blocks bs (next state b) l.1 (All-tail Block b bs each)))
 
-  as_many_blocks : (bs : List ℕ) (state : ℕ) → length (there state bs) ≡ length bs
-  as_many_blocks [] state = ap length (over.none state)
-  as_many_blocks (b ∷ bs) state = ap length (over.more state b bs) ∙ ap suc (as_many_blocks bs (next state b))
-
   blocks_again : (bs : List ℕ) (state : ℕ) → Block state → All Block bs → back state (there state bs) ≡ bs
   blocks_again [] state hs each = ap (back state) (over.none state) ∙ over_back.none state
   blocks_again (b ∷ bs) state hs each =
@@ -46,7 +42,7 @@ module _ {there back : ℕ → List ℕ → List ℕ} {makes next makes_back nex
 
   undone_from : (state : ℕ) → Block state → Undoes (there state) (back state)
   undone_from state hs =
-      record { to_blocks = λ bs. all_blocks bs state hs; as_many = λ bs. as_many_blocks bs state; back_again = λ bs. blocks_again bs state hs }
+      record { to_blocks = λ bs. all_blocks bs state hs; as_many = λ bs. as_many_blocks over bs state; back_again = λ bs. blocks_again bs state hs }
 
 module _ (there back : ℕ → ℕ) (law : Inverse there back) where
   -- by deciphering, or by enciphering what was deciphered

@@ -63,7 +63,7 @@ module _ {F : Type 0} {calls : F → ℕ → ℕ → F → Type 0} {start : F} {
 -- `At` ties the step, as it is, to the state of a mode: a call makes what the mode makes, and leaves the step at the next state.
 module _ {F : Type 0} {calls : F → ℕ → ℕ → F → Type 0} {mode : ℕ → List ℕ → List ℕ} {makes next : ℕ → ℕ → ℕ} (over : GoesOver mode makes next)
     (At : F → ℕ → Type 0) (steps : (f : F) (state block made : ℕ) (g : F) → At f state → calls f block made g → (made ≡ makes state block) × At g (next state block)) where
-  made_by_mode : (blocks made : List ℕ) (f : F) (state : ℕ) → At f state → Makes calls f blocks made → made ≡ mode state blocks
+  pub made_by_mode : (blocks made : List ℕ) (f : F) (state : ℕ) → At f state → Makes calls f blocks made → made ≡ mode state blocks
   made_by_mode [] [] f state at m = sym (over.none state)
   made_by_mode [] (c ∷ cs) f state at m = absurd m
   made_by_mode (b ∷ bs) [] f state at m = absurd m
