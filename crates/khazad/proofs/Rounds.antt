@@ -1,9 +1,8 @@
 -- The rounds on blocks, and the cipher under the round keys that an engine holds.
-use Rattle.std.proofs.Common.{◌≡◌, ℕ, suc, ◌+◌, ◌<◌, List, length, get_or, sym, ap, ◌∙◌, ap₂, add-one, arith}
+use Rattle.std.proofs.Common.{◌≡◌, ℕ, suc, ◌+◌, ◌<◌, List, length, get_or, take, drop, sym, ap, ◌∙◌, ap₂, add-one, arith}
 use lib.Bits.{bit_xor}
-use Rattle.std.proofs.lemmas.List.Edits.{get_or-between}
+use Rattle.std.proofs.lemmas.List.{length-take, get_or-take, get_or-drop}
 use Rattle.std.proofs.lemmas.List.FromFn.{fill_by_all, get_or-map-range_with_len, length-map-range_with_len}
-use Rattle.std.specs.List.{between}
 use Rattle.cipher.specs.Block.{Key, Block, be_bytes, be_number, ◌⊕◌}
 use Rattle.cipher.proofs.Numbers.{be_bytes-⊕, block_bytes, bytes_of_block}
 use Rattle.khazad.specs.Khazad.{γ, θ, ρ, K, rounds, α, inverse, encipher, decipher, enciphered, deciphered}
@@ -15,17 +14,20 @@ use Rattle.khazad.proofs.Schedules.{mixed_bytes, block_with_bytes}
 
 -- ---- the rounds
 
+-- a place among the first n of a row is below n
+pub before_cut : (n : ℕ) (xs : List ℕ) (i : ℕ) → i < length (take n xs) → i < n
+before_cut n xs i l = omega (arith, length-take n xs)
+
 module _ (keys : List ℕ) where
-  -- after i of the rounds that have θ, one more, under the next of the keys between the first and the last
-  pub one_round_more : (start i state mixed : ℕ) → i < 7 → be_bytes 8 state ≡ rounds (rows_of keys) i (be_bytes 8 start)
-      → mixed ≡ on_blocks (λ a. θ (γ a)) state → be_bytes 8 (bit_xor mixed (get_or (between 1 8 keys) i 0)) ≡ rounds (rows_of keys) (i + 1) (be_bytes 8 start)
+  -- after i of the rounds that have θ, one more, under the next of the n keys that follow the first
+  pub one_round_more : (n start i state mixed : ℕ) → i < n → be_bytes 8 state ≡ rounds (rows_of keys) i (be_bytes 8 start)
+      → mixed ≡ on_blocks (λ a. θ (γ a)) state → be_bytes 8 (bit_xor mixed (get_or (take n (drop 1 keys)) i 0)) ≡ rounds (rows_of keys) (i + 1) (be_bytes 8 start)
   unfolding rounds ρ
-  one_round_more start i state mixed l hs hm =
-      let within : 1 + i < 8 = omega arith in
+  one_round_more n start i state mixed l hs hm =
       let number : 1 + i ≡ suc i = omega arith in
       let next : rounds (rows_of keys) (suc i) (be_bytes 8 start) ≡ rounds (rows_of keys) (i + 1) (be_bytes 8 start) = ap (λ n. rounds (rows_of keys) n (be_bytes 8 start)) (sym (add-one i)) in
-      let key : get_or (between 1 8 keys) i 0 ≡ get_or keys (suc i) 0 = get_or-between keys 1 8 i 0 within ∙ ap (λ n. get_or keys n 0) number in
-      be_bytes-⊕ 8 mixed (get_or (between 1 8 keys) i 0)
+      let key : get_or (take n (drop 1 keys)) i 0 ≡ get_or keys (suc i) 0 = get_or-take n (drop 1 keys) i 0 l ∙ get_or-drop 1 keys i 0 ∙ ap (λ n. get_or keys n 0) number in
+      be_bytes-⊕ 8 mixed (get_or (take n (drop 1 keys)) i 0)
       ∙ ap₂ ◌⊕◌ (ap (be_bytes 8) hm ∙ mixed_bytes state ∙ ap (λ a. θ (γ a)) hs) (ap (be_bytes 8) key)
       ∙ next
 

@@ -1,9 +1,11 @@
 -- The box S undoes itself and gives bytes, each by one computed test over all bytes.
-use Rattle.std.specs.Prelude.{◌≡◌, ℕ, ◌+◌, ◌*◌, ◌/◌, ◌%◌, ◌<◌, bit_and, bit_or}
-use Rattle.std.proofs.Common.{sym, ap, ap₂, ◌∙◌, subst}
+use Rattle.std.specs.Prelude.{◌≡◌, ℕ, ◌+◌, ◌*◌, ◌/◌, ◌%◌, ◌<◌, List, length, slice_index, bit_and, bit_or}
+use Rattle.std.specs.List.{All}
+use Rattle.std.proofs.Common.{sym, ap, ap₂, ◌∙◌, subst, T, ltb, arith}
+use Rattle.std.proofs.lemmas.List.Elements.{All-from_get_or}
 use Rattle.std.proofs.lemmas.Nat.{and_mask}
 use Rattle.khazad.specs.Khazad.{P, Q, boxed, exchanged, joined, S}
-use Rattle.cipher.proofs.Computed.{agree, agree_pairs, stay_below}
+use Rattle.cipher.proofs.Computed.{upto, agree, agree_pairs, stay_below}
 
 pub S-twice : (x : ℕ) → x < 256 → S (S x) ≡ x
 unfolding S
@@ -40,6 +42,10 @@ P-nibble = stay_below P 16 16 tt
 
 Q-nibble : (n : ℕ) → n < 16 → Q n < 16
 Q-nibble = stay_below Q 16 16 tt
+
+-- sixteen entries as they stand, each a nibble, by one computed test
+pub all_nibbles : (xs : List ℕ) → length xs ≡ 16 → T (upto (λ n. ltb (slice_index xs n) 16) 0 16) → All (λ n. n < 16) xs
+all_nibbles xs e t = All-from_get_or (λ n. n < 16) xs 0 (λ k l. stay_below (slice_index xs) 16 16 t k (omega (arith, e)))
 
 -- two nibbles stay nibbles in two boxes of which each keeps them, and so in the mini-boxes, either way round
 boxed-nibbles : (f g : ℕ → ℕ) → ((n : ℕ) → n < 16 → f n < 16) → ((n : ℕ) → n < 16 → g n < 16)

@@ -21,7 +21,7 @@ const H: [u8; 64] = [
 fn gamma(a: [u8; 8]) -> [u8; 8]
     ensures { result ≡ γ a }
 {
-    a.map(substitute)
+    array::from_fn(|i| substitute(a[i]))
 }
 
 // Byte j of the product by H: the bytes of the row times column j.

@@ -1,6 +1,7 @@
 // The box S, worked out from its two mini-boxes.
 
 ghost use Rattle.std.specs.Prelude.{◌≡◌, ◌<◌, slice_index};
+ghost use Rattle.std.specs.List.{All};
 ghost use Rattle.khazad.specs.Khazad.{S, boxed, exchanged};
 
 // The mini-boxes, P and Q of the cipher: what each makes of a nibble.
@@ -26,7 +27,8 @@ fn exchange(nibbles: (u8, u8)) -> (u8, u8)
 // An upper and a lower nibble, each through a mini-box.
 fn boxed(upper: &[u8; 16], lower: &[u8; 16], nibbles: (u8, u8)) -> (u8, u8)
     requires { (nibbles.0 < 16) × (nibbles.1 < 16) }
-    ensures { result ≡ boxed (slice_index upper.now) (slice_index lower.now) nibbles }
+    ensures value { result ≡ boxed (slice_index upper.now) (slice_index lower.now) nibbles }
+    ensures bound { All (λ n. n < 16) upper.now → All (λ n. n < 16) lower.now → (result.0 < 16) × (result.1 < 16) }
 {
     (upper[nibbles.0 as usize], lower[nibbles.1 as usize])
 }

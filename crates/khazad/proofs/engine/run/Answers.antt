@@ -1,7 +1,7 @@
-use Rattle.std.proofs.Common.{◌^◌, ◌<◌, ◌≡◌, get_or, refl, arith}
-use lib.Bits.{bit_xor, xor_lt}
+use Rattle.std.proofs.Common.{◌^◌, ◌<◌, ◌≡◌, get_or, refl, arith, rules}
+use lib.Bits.{xor_lt}
 use Rattle.khazad.specs.Khazad.{rounds}
-use Rattle.khazad.proofs.Rounds.{one_round_more, all_rounds}
+use Rattle.khazad.proofs.Rounds.{before_cut, one_round_more, all_rounds}
 use Rattle.khazad.proofs.engine.run.Goals as goal
 
 pub loop-key-init : goal.loop-key-init
@@ -9,9 +9,7 @@ unfolding rounds
 loop-key-init g c = refl
 
 pub loop-key-preserved : goal.loop-key-preserved
-loop-key-preserved g c =
-    one_round_more c.args.keys.now (bit_xor c.args.block (get_or c.args.keys.now 0 0)) c.loop-key.key-index c.loop-key.state c.theta_gamma.result
-    (omega arith) c.loop-key.invariant c.theta_gamma.ensures
+loop-key-preserved g c = search (rules, one_round_more, before_cut)
 
 pub returns : goal.returns
 returns g c =
