@@ -1,5 +1,5 @@
 -- A row times a matrix, column by column.
-use Rattle.std.proofs.Common.{◌≡◌, ℕ, ◌<◌, List, [], ◌∷◌, ◌++◌, length, get_or, drop, sym, refl, ap, ◌∙◌, ap₂, arith}
+use Rattle.std.proofs.Common.{◌≡◌, ℕ, ◌+◌, ◌*◌, ◌<◌, List, [], ◌∷◌, ◌++◌, length, get_or, drop, sym, refl, ap, ◌∙◌, ap₂, arith}
 use lib.Bits.{bit_xor, xor_assoc, xor_zero_r}
 use Rattle.std.proofs.lemmas.Simd.{get_or-zip2}
 use Rattle.std.proofs.lemmas.List.{get_or-map, get_or-replicate, get_or_append_left, drop_at}
@@ -8,6 +8,7 @@ use Rattle.std.proofs.lemmas.List.Elements.{All-head, All-tail}
 use Rattle.cipher.specs.Block.{Byte, Bytes}
 use Rattle.khazad.specs.Khazad.{mul, H, scaled, product, θ}
 use Rattle.khazad.specs.Layers.{Wide, H-wide, scaled-bytes, product-bytes}
+use Rattle.cipher.proofs.Computed.{agree_pairs}
 
 -- the bytes of a row, each times what stands in column j of its row of a matrix, added up
 unfoldable pub dot : List ℕ → List (List ℕ) → ℕ → ℕ
@@ -46,6 +47,10 @@ dot-flat (x ∷ xs) (row ∷ rows) w h j l =
     let within : j < length row = omega arith in
     ap₂ (λ e rest. bit_xor (mul e x) rest) (sym (get_or_append_left row others 0 j within))
     (dot-flat xs rows (All-tail (λ row. length row ≡ 8) row rows w) (omega arith) j l ∙ ap (λ es. dot_flat xs es j) (sym (drop_at row others 8 eight)))
+
+-- H as the code has it, its rows one after the other
+pub H-entry : (i j : ℕ) → i < 8 → j < 8 → get_or (flat_map (λ row. row) H) (8 * i + j) 0 ≡ get_or (get_or H i []) j 0
+H-entry = agree_pairs 8 8 (λ i j. get_or (flat_map (λ row. row) H) (8 * i + j) 0) (λ i j. get_or (get_or H i []) j 0) tt
 
 pub θ-flat : (a : List ℕ) → Bytes 8 a → (j : ℕ) → j < 8 → dot_flat a (flat_map (λ row. row) H) j ≡ get_or (θ a) j 0
 θ-flat a h j l = sym (θ-at a h j l ∙ dot-flat a H H-wide h.0 j l)
