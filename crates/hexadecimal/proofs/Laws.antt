@@ -1,5 +1,5 @@
 -- Laws of hexadecimal digits: reading pair by pair, writing byte by byte, and that reading undoes writing.
-use Rattle.std.proofs.Common.{◌≡◌, ℕ, zero, suc, ◌+◌, ◌-◌, ◌*◌, ◌/◌, ◌%◌, ◌^◌, ◌<◌, ◌≤◌, false, eqb, List, [], ◌∷◌, ◌++◌, length, length-set, get_or, set, take, drop, Some, None, Option, sym, refl, ap, ap₂, ◌∙◌, append_assoc, arith, w8, Fits}
+use Rattle.std.proofs.Common.{◌≡◌, ℕ, zero, suc, ◌+◌, ◌-◌, ◌*◌, ◌/◌, ◌%◌, ◌^◌, ◌<◌, ◌≤◌, false, eqb, List, [], ◌∷◌, ◌++◌, length, length-set, get_or, set, take, drop, Some, None, codes, Option, sym, refl, ap, ap₂, ◌∙◌, append_assoc, arith, w8, Fits}
 use Rattle.std.proofs.lemmas.Grind.{take-set_at}
 use mir.Facts.{Fits-lt-pow}
 use Rattle.std.proofs.lemmas.List.Elements.{All-from_get_or, All-head, All-tail}
@@ -41,7 +41,7 @@ unfolding hex
 hex-append [] bytes = refl
 hex-append (byte ∷ front) bytes = ap (λ digits. mark (byte / 16) ∷ mark (byte % 16) ∷ digits) (hex-append front bytes)
 
--- one byte more is two digits more, as `{:02x}` writes them
+-- one byte more is two digits more, as a `write!` of `{:02x}` would write them
 pub hex-more : (bytes : List ℕ) (i : ℕ) → i < length bytes → get_or bytes i 0 < 256
     → hex (take i bytes) ++ padded_integral (format_spec 32 0 4 2 (2 ^ 64 - 1)) false [] (digits 16 false (get_or bytes i 0)) ≡ hex (take (i + 1) bytes)
 unfolding hex
@@ -68,6 +68,12 @@ hex-pieces bytes piece rest e = sym (hex-append piece rest) ∙ ap hex (sym e)
 
 pub hex-all : (bytes : List ℕ) (i : ℕ) → length bytes ≤ i → hex (take i bytes) ≡ hex bytes
 hex-all bytes i h = ap hex (take_all i bytes h)
+
+-- after the last byte of a piece, all its digits stand at the front of the text
+pub whole_piece : (piece text : List ℕ) (i : ℕ) → length piece ≤ i → i ≤ length piece → take (2 * i) text ≡ hex (take i piece) → take (2 * length piece) text ≡ hex piece
+whole_piece piece text i h l so_far =
+    let all : length piece ≡ i = omega arith in
+    ap (λ n. take (2 * n) text) all ∙ so_far ∙ hex-all piece i h
 
 -- ---- digits are ASCII
 
@@ -103,6 +109,16 @@ unhex-undoes_hex [] h = refl
 unhex-undoes_hex (byte ∷ rest) h =
     ap (λ o. before o (unhex (hex rest))) (pair-of_byte byte (All-head (λ b. b < 256) byte rest h))
     ∙ ap (before (Some byte)) (unhex-undoes_hex rest (All-tail (λ b. b < 256) byte rest h))
+
+pub no_bytes_are_a_dash : (bytes : List ℕ) → length bytes ≡ 0 → codes "-" ≡ shown_bytes bytes
+unfolding shown_bytes
+no_bytes_are_a_dash [] h = refl
+no_bytes_are_a_dash (byte ∷ bytes) h = absurd (omega arith)
+
+pub some_bytes_are_digits : (bytes : List ℕ) → (length bytes ≡ 0 → ⊥) → hex bytes ≡ shown_bytes bytes
+unfolding shown_bytes
+some_bytes_are_digits [] h = absurd (h refl)
+some_bytes_are_digits (byte ∷ bytes) h = refl
 
 -- what is written as a word is read back: of some bytes it is two digits or more, and no dash
 pub reading_undoes_showing : (bytes : List ℕ) → All (λ byte. byte < 256) bytes → word_bytes (shown_bytes bytes) ≡ Some bytes

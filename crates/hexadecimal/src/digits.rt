@@ -1,7 +1,6 @@
 // Bytes as hexadecimal digits: reading them from text and writing them as text.
-ghost use Rattle.std.specs.Prelude.{◌≡◌, ◌*◌, ◌<◌, ◌≤◌, IfOk, Some, length, take, vec_items, string_bytes};
+ghost use Rattle.std.specs.Prelude.{◌≡◌, ◌*◌, ◌<◌, ◌≤◌, IfOk, Some, length, vec_items, string_bytes};
 ghost use Rattle.std.specs.Option.{option_map};
-ghost use Rattle.std.specs.Str.{IsAscii};
 ghost use Rattle.hexadecimal.specs.Hex.{digit, pair, unhex, mark, hex, word_bytes, shown_bytes};
 
 use std::alloc::{AllocError, Global};
@@ -45,19 +44,23 @@ fn digit_mark(value: u8) -> u8
     }
 }
 
-// How many bytes are printed at a time: their digits go out in one write, and not in one for each byte.
+// How many bytes are written at a time: their digits go out in one write, and not in one for each byte.
 const PIECE: usize = 32;
 
-// Writes the digits of a piece at the front of a text that has room for the digits of a whole one.
-fn put_digits(piece: &[u8], text: &mut [u8; 64])
+// The digits of a piece, written into an array that has room for those of a whole one. A byte has two places in it, so the loop
+// goes by the number of the byte.
+fn digits_of<'a>(piece: &[u8], text: &'a mut [u8; 64]) -> &'a str
     requires { length piece.now ≤ 32 }
-    ensures digits { take (2 * length piece.now) text.new ≡ hex piece.now }
-    ensures ascii { IsAscii (hex piece.now) }
+    ensures { result.now ≡ hex piece.now }
 {
     for (i, byte) in piece.iter().enumerate() {
         text[2 * i] = digit_mark(byte / 16);
         text[2 * i + 1] = digit_mark(byte % 16);
     }
+    let Ok(digits) = str::from_utf8(&text[..2 * piece.len()]) else {
+        unreachable!();
+    };
+    digits
 }
 
 // Bytes that are printed as digits, two a byte, in lower case.
@@ -72,11 +75,7 @@ impl fmt::Display for Digits<'_> {
     fn fmt<W: fmt::Write>(&self, f: &mut fmt::Formatter<W>) -> fmt::Result {
         let mut text = [0; 64];
         for piece in self.bytes.chunks(PIECE) {
-            put_digits(piece, &mut text);
-            let Ok(digits) = str::from_utf8(&text[..2 * piece.len()]) else {
-                unreachable!();
-            };
-            f.write_str(digits)?;
+            f.write_str(digits_of(piece, &mut text))?;
         }
         Ok(())
     }
@@ -101,11 +100,17 @@ impl fmt::Display for Word<'_> {
 }
 
 // The bytes as text, two digits a byte, in lower case. Reading that text gives the bytes again.
+// Not by `to_string` of `Digits`, which costs half as much again where the bytes are few.
 pub fn encode(heap: Global, bytes: &[u8]) -> Result<String, AllocError>
     ensures written { IfOk result (λ s. string_bytes s ≡ hex bytes.now) }
     ensures read_back { IfOk result (λ s. unhex (string_bytes s) ≡ Some bytes.now) }
 {
-    Digits { bytes }.to_string(heap)
+    let mut text = String::new(heap);
+    let mut digits = [0; 64];
+    for piece in bytes.chunks(PIECE) {
+        text.push_str(digits_of(piece, &mut digits))?;
+    }
+    Ok(text)
 }
 
 // The bytes of a word of a line: `-` stands for none. Nothing for the empty word, and for one that is not all pairs of digits.
@@ -121,11 +126,15 @@ pub fn read_word(heap: Global, word: &[u8]) -> Result<Option<Vec<u8>>, AllocErro
 }
 
 // The word of some bytes: `-` for none, else their digits. Reading that word gives the bytes again.
+#[tactic(auto, unfolding(crate::specs::Hex::shown_bytes))]
 pub fn show_bytes(heap: Global, bytes: &[u8]) -> Result<String, AllocError>
     ensures written { IfOk result (λ s. string_bytes s ≡ shown_bytes bytes.now) }
     ensures read_back { IfOk result (λ s. word_bytes (string_bytes s) ≡ Some bytes.now) }
 {
-    Word { bytes }.to_string(heap)
+    if bytes.is_empty() {
+        return String::from_str(heap, "-");
+    }
+    encode(heap, bytes)
 }
 
 // The byte of a high and a low digit; nothing where one of the two is no digit.

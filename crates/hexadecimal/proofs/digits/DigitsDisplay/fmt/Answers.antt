@@ -2,16 +2,10 @@
 use Rattle.std.proofs.Common.{List, ℕ, ◌≡◌, ◌++◌, [], ap, ◌∙◌, append_assoc, append-nil, rules}
 use Rattle.std.proofs.Output.{has_written_append, has_written_of_eq}
 use Rattle.std.proofs.lemmas.List.{nil_from_length}
-use Rattle.std.proofs.lemmas.Str.{IsUtf8-from_ascii}
 use Rattle.std.specs.Slice.Iter.{chunks_rest}
 use Rattle.hexadecimal.specs.Hex.{hex}
 use Rattle.hexadecimal.proofs.Laws.{hex-pieces}
 use Rattle.hexadecimal.proofs.digits.DigitsDisplay.fmt.Goals as goal
-
-pub unreachable-requires : goal.unreachable-requires
-unreachable-requires g c =
-    let piece = c.in-Some.piece.now in
-    c.in_default.ensures.cases.0 (rw c.put_digits.ensures.digits (IsUtf8-from_ascii (hex piece) c.put_digits.ensures.ascii))
 
 pub loop-piece-init : goal.loop-piece-init
 loop-piece-init g c = (search rules, tt, search rules, λ plain. ([], search rules, search rules))
@@ -21,13 +15,13 @@ loop-piece-preserved g c =
     let piece = c.in-Some.piece.now in
     let steps = c.in-Some.ensures.steps in
     let size = c.loop-piece.invariant.2 in
-    let shown : c.in-Ok.digits.now ≡ hex piece = c.in-Ok.ensures.cases.0 ∙ c.put_digits.ensures.digits in (
+    let shown : c.digits_of.result.now ≡ hex piece = c.digits_of.ensures in (
       search rules,
       tt,
       steps.0 ∙ size,
       λ plain.
           let so_far = c.loop-piece.invariant.3 plain in (
-            so_far.0 ++ c.in-Ok.digits.now,
+            so_far.0 ++ c.digits_of.result.now,
             has_written_append _ _ _ _ _ _ so_far.1 (search rules),
             append_assoc so_far.0 _ _
                 ∙ ap (λ (t : List ℕ). so_far.0 ++ t) (rw shown (hex-pieces _ piece (chunks_rest c.next.new.self) steps.1.0))
