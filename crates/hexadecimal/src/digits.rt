@@ -100,7 +100,7 @@ impl fmt::Display for Word<'_> {
 }
 
 // The bytes as text, two digits a byte, in lower case. Reading that text gives the bytes again.
-// Not by `to_string` of `Digits`, which costs half as much again where the bytes are few.
+// Not by `to_string` of `Digits`, which is slower where the bytes are few.
 pub fn encode(heap: Global, bytes: &[u8]) -> Result<String, AllocError>
     ensures written { IfOk result (λ s. string_bytes s ≡ hex bytes.now) }
     ensures read_back { IfOk result (λ s. unhex (string_bytes s) ≡ Some bytes.now) }
