@@ -110,7 +110,8 @@ impl Refusal {
 }
 
 // Two refusals are equal where they are the same cause: no two causes have one number.
-// It is written by hand: a derive takes no clause, and `==` promises both in its own contract.
+// It is written by hand: a derive takes no clause, and `==` promises in its own contract what it compares (`value`) and what that
+// tells (`same_cause`).
 impl PartialEq for Refusal {
     ghost eq = { λ x y. number_of x == number_of y };
 
